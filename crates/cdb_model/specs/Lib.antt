@@ -1,1 +1,6 @@
 pub mod Causes
+pub mod Text
+pub mod TileFile
+pub mod Commands
+pub mod Machine
+pub mod Run
