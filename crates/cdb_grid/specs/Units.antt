@@ -2,7 +2,7 @@
 --
 -- Geometry is counted in whole arc units from the south pole and from the meridian of -180 degrees, and in whole
 -- degrees from the same two. A level l has the height 24 - l: 1 at level 23 and 34 at level -10.
-use Rattle.std.specs.Prelude.{ℕ, suc, ◌+◌, ◌-◌, ◌*◌, ◌^◌, ℤ, pos, negsuc, min, nat_lt, if◌then◌else◌}
+use Rattle.std.specs.Prelude.{◌≡◌, ℕ, suc, ◌+◌, ◌-◌, ◌*◌, ◌^◌, ℤ, pos, negsuc, ◌*ℤ◌, ◌≤ℤ◌, ◌<ℤ◌, min, nat_lt, if◌then◌else◌}
 
 -- the arc units of one degree, which are 2025 * 2 ^ 34
 abbrev pub degree : ℕ
@@ -57,3 +57,17 @@ width_at y =
     if nat_lt y 165 then 3 else
     if nat_lt y 170 then 4 else
     if nat_lt y 179 then 6 else 12
+
+-- so many units are n/d degrees, and at most 360 degrees to either side
+pub record IsFraction (n d units : ℤ) : Type 0 where
+  pub positive : pos 0 <ℤ d
+  pub value : units *ℤ d ≡ n *ℤ pos degree
+  pub least : negsuc (360 * degree - 1) ≤ℤ units
+  pub most : units ≤ℤ pos (360 * degree)
+
+-- a latitude and a longitude, in units, from -90 to below 90 and from -180 to below 180 degrees
+pub record IsOnGlobe (lat lon : ℤ) : Type 0 where
+  pub south : negsuc (90 * degree - 1) ≤ℤ lat
+  pub north : lat <ℤ pos (90 * degree)
+  pub west : negsuc (180 * degree - 1) ≤ℤ lon
+  pub east : lon <ℤ pos (180 * degree)

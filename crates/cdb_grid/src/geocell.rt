@@ -4,7 +4,7 @@ ghost use Rattle.cdb_grid.specs.Units.{width_at, row_of, column_of};
 /// A geocell, named by the whole degrees of its south-west corner. It is one degree high and as
 /// wide as its latitude zone says, and it has its south and west edges and not its north and east
 /// edges (OGC CDB 1.2 Volume 1, geocells).
-#[derive(Clone, Copy, Debug, PartialEq, Eq)]
+#[derive(Clone, Copy, Debug, PartialEq, Eq, PartialOrd, Ord)]
 pub struct Geocell {
     pub lat: i8,
     pub lon: i16,

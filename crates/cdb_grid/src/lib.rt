@@ -3,19 +3,30 @@
 #![tactic(auto)]
 
 mod arc;
+mod element;
 mod family;
 mod fraction;
 mod geocell;
+pub mod laws;
 mod level;
+mod locate;
+mod pyramid;
 mod spot;
+#[cfg(test)]
+mod tests;
 mod tile;
+mod units;
 mod zone;
 
 pub use arc::Arc;
+pub use element::place;
 pub use family::Family;
 pub use fraction::Fraction;
 pub use geocell::Geocell;
 pub use level::Level;
+pub use locate::{geocell_at, tile_at};
+pub use pyramid::{children, parent, spot_of};
 pub use spot::Spot;
 pub use tile::{ChildTiles, Tile};
-pub use zone::Zone;
+pub use units::side;
+pub use zone::{Zone, zone_of};

@@ -1,0 +1,9 @@
+pub mod UnitLaws
+pub mod GridLaws
+pub mod Same
+pub mod TileLaws
+pub mod ElementLaws
+pub mod PyramidLaws
+pub mod SpotLaws
+pub mod ChildLaws
+pub mod FrameLaws
