@@ -1,6 +1,13 @@
 pub mod Causes
 pub mod Text
+pub mod Maps
+pub mod Names
 pub mod TileFile
+pub mod Words
+pub mod BuiltLines
+pub mod Grammar
+pub mod Writing
 pub mod Commands
 pub mod Machine
 pub mod Run
+pub mod Acknowledged

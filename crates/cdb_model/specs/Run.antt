@@ -1,5 +1,5 @@
 -- Runs of the machine over the lines of an input, and their texts.
-use Rattle.std.specs.Prelude.{◌≡◌, ◌≢◌, ℕ, List, [], ◌∷◌, ◌++◌, length, codes, decimal}
+use Rattle.std.specs.Prelude.{◌≡◌, ◌≢◌, ℕ, List, [], ◌∷◌, ◌++◌, length, nat_le, if◌then◌else◌, codes, decimal}
 use Rattle.std.specs.List.{flat_map}
 use Rattle.cdb_model.specs.Text.{Text, ended}
 use Rattle.cdb_model.specs.Commands as said
@@ -30,6 +30,10 @@ Run old (command ∷ commands) [] new = ⊥
 
 -- ---- lines
 
+-- what a line says: one of more than 4,096 bytes isn't built
+unfoldable pub line_command : Text → Command
+line_command line = if nat_le (length line) 4096 then command_of line else said.not_built
+
 abbrev pub HasNoFeed : Text → Type 0
 HasNoFeed [] = Unit {0}
 HasNoFeed (c ∷ rest) = (c ≢ 10) × HasNoFeed rest
@@ -46,7 +50,7 @@ pub record Cut (bytes : Text) (lines : List Text) (rest : Text) : Type 0 where
 
 abbrev pub HaveNoQuit : List Text → Type 0
 HaveNoQuit [] = Unit {0}
-HaveNoQuit (line ∷ lines) = (command_of line ≢ said.quit) × HaveNoQuit lines
+HaveNoQuit (line ∷ lines) = (line_command line ≢ said.quit) × HaveNoQuit lines
 
 -- the commands of lines: blank lines are passed over, and `quit` ends them
 abbrev pub before : Command → List Command → List Command
@@ -56,7 +60,7 @@ before command later = command ∷ later
 
 abbrev pub commands_of : List Text → List Command
 commands_of [] = []
-commands_of (line ∷ lines) = before (command_of line) (commands_of lines)
+commands_of (line ∷ lines) = before (line_command line) (commands_of lines)
 
 -- ---- texts
 

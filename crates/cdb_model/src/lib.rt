@@ -3,12 +3,14 @@
 
 mod kind;
 mod line;
+mod line_error;
 mod name_error;
 mod session;
 mod source;
 
 pub use kind::Kind;
-pub use line::{InlineWords, Line};
+pub use line::{InlineWords, Line, LoadWords};
+pub use line_error::LineError;
 pub use name_error::NameError;
 pub use session::Session;
 pub use source::Source;
