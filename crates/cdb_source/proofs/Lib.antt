@@ -1,0 +1,9 @@
+pub mod RowLaws
+pub mod OfferLaws
+pub mod BestLaws
+pub mod ElevationLaws
+pub mod CellLaws
+pub mod ModeLaws
+pub mod MaterialLaws
+pub mod SampleLaws
+pub mod ReachLaws

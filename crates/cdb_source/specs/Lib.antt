@@ -1,0 +1,10 @@
+pub mod Head
+pub mod Posts
+pub mod Made
+pub mod Maker
+pub mod Sample
+pub mod Offers
+pub mod Values
+pub mod Meaning
+pub mod Reached
+pub mod Laws

@@ -1,0 +1,66 @@
+//! The laws of one level: why the tiles of a level can be made from the tiles of the next finer one,
+//! from the new sources of this level, and from what was there before. Each function does nothing;
+//! its contract is the law, for every list of sources.
+ghost use Rattle.cdb_source.specs.Laws.{BestSource, FinerPlaces, FromFiner, EarlierStand, ThreePasses, LeastOfCell, GreatestOfCell, MostFrequent, MaterialLater, ReachingAlone, Samples};
+
+/// The elevation at a place is the sample of the source that is greatest by level, then by number,
+/// among the elevation sources of a level at least as fine that have a value there.
+pub fn best_source()
+    ensures { BestSource }
+{}
+
+/// A place of a level is a place of each finer level.
+pub fn finer_places()
+    ensures { FinerPlaces }
+{}
+
+/// The elevation of a level is that of the next finer level where it has a value, else the sample
+/// of the newest source of exactly this level that has one, or none.
+pub fn elevation_from_finer()
+    ensures { FromFiner }
+{}
+
+/// Where neither the next finer level nor a later source of exactly this level has a value, the
+/// earlier sources decide.
+pub fn earlier_sources_stand()
+    ensures { EarlierStand }
+{}
+
+/// The next finer level, then the later sources of exactly this level, newest first, then what was
+/// there before.
+pub fn three_passes()
+    ensures { ThreePasses }
+{}
+
+/// The least elevation of a cell, from its corner's and from those of its four finer cells.
+pub fn least_of_cell()
+    ensures { LeastOfCell }
+{}
+
+/// The greatest elevation of a cell, from its corner's and from those of its four finer cells.
+pub fn greatest_of_cell()
+    ensures { GreatestOfCell }
+{}
+
+/// The mode is the most frequent value, and of equally frequent ones the smallest.
+pub fn most_frequent()
+    ensures { MostFrequent }
+{}
+
+/// The material of a cell with later sources: its four finer cells, then the later sources of
+/// exactly this level, then what was there before.
+pub fn material_with_later_sources()
+    ensures { MaterialLater }
+{}
+
+/// The values of a tile, of each family, depend on the sources that reach it, in their order, and
+/// on no other.
+pub fn reaching_sources_alone()
+    ensures { ReachingAlone }
+{}
+
+/// A source has values in its box alone, and the rounding is to the nearest whole number, a half
+/// upward.
+pub fn samples()
+    ensures { Samples }
+{}

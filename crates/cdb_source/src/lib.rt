@@ -1,0 +1,21 @@
+//! Sources of elevations and of materials: rasters of posts on the globe, from which the tiles of
+//! a store take their values.
+#![tactic(auto)]
+
+mod head;
+mod kind;
+pub mod laws;
+mod maker;
+mod posts;
+mod row;
+mod source;
+mod span;
+
+pub use head::SourceHead;
+pub use kind::Kind;
+pub use maker::{Range, SourceMaker};
+pub use posts::Posts;
+pub use source::Source;
+
+#[cfg(test)]
+mod tests;
