@@ -1,0 +1,2 @@
+pub mod MeanLaws
+pub mod PostLaws
