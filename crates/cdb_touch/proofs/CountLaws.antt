@@ -1,0 +1,152 @@
+-- Laws of how many tiles a set has.
+use Rattle.std.proofs.Common.{◌≡◌, ℕ, zero, suc, ◌+◌, ◌<◌, ◌≤◌, ◌↔◌, ◌⊎◌, inl, inr, List, [], ◌∷◌, ◌++◌, length, get_or, Some, refl, sym, ◌∙◌, ap, subst, arith, lit<, length-append}
+use Rattle.std.specs.List.{Contains, remove, slice_get}
+use Rattle.std.specs.List.Sorted.{IsPermutation}
+use Rattle.std.proofs.lemmas.Option.{slice_get_within, get_or_from_slice_get, slice_get-get_or}
+use Rattle.std.proofs.lemmas.List.Elements.{Contains-get_or, Contains-append_left, Contains-append_right, Contains-append_cases}
+use Rattle.std.proofs.lemmas.List.Sorted.{IsPermutation-remove, Contains-permutation, length_permutation}
+use Rattle.cdb_grid.specs.declared.tile.Tile.{Tile}
+use Rattle.cdb_source.specs.declared.head.SourceHead.{SourceHead}
+use Rattle.cdb_source.specs.Reached.{Reaches, IsReachCount, IsLoad}
+use Rattle.cdb_touch.specs.Count.{HasCount}
+
+-- no tile stands twice
+abbrev Once : List Tile → Type 0
+Once xs = (i j : ℕ) → i < length xs → slice_get xs i ≡ slice_get xs j → i ≡ j
+
+contains_at : (xs : List Tile) (k : ℕ) (x : Tile) → slice_get xs k ≡ Some x → Contains xs x
+contains_at xs k x e = subst (λ y. Contains xs y) (get_or_from_slice_get xs k x x e) (Contains-get_or xs k x (slice_get_within xs k x e))
+
+at_contains : (xs : List Tile) (x : Tile) → Contains xs x → (k : ℕ) × (slice_get xs k ≡ Some x)
+at_contains xs x c = (c.0, slice_get-get_or xs c.0 x c.1 ∙ ap Some c.2)
+
+not_in_none : (x : Tile) → Contains [] x → ⊥
+not_in_none x c = let lt : c.0 < 0 = c.1 in omega arith
+
+in_one : (x y : Tile) → Contains (x ∷ []) y → x ≡ y
+in_one x y c = at c.0 c.1 c.2
+  where
+    at : (k : ℕ) → k < length (x ∷ []) → get_or (x ∷ []) k y ≡ y → x ≡ y
+    at zero lt e = e
+    at (suc k) lt e = let l : suc k < 1 = lt in absurd (omega arith)
+
+once_none : Once []
+once_none i j lt e = let l : i < 0 = lt in absurd (omega arith)
+
+once_cons : (x : Tile) (xs : List Tile) → (Contains xs x → ⊥) → Once xs → Once (x ∷ xs)
+once_cons x xs out o zero zero lt e = refl
+once_cons x xs out o zero (suc j) lt e = absurd (out (contains_at xs j x (sym e)))
+once_cons x xs out o (suc i) zero lt e = absurd (out (contains_at xs i x e))
+once_cons x xs out o (suc i) (suc j) lt e = let l : suc i < suc (length xs) = lt in ap suc (o i j (omega arith) e)
+
+once_tail : (x : Tile) (xs : List Tile) → Once (x ∷ xs) → Once xs
+once_tail x xs o i j lt e =
+    let s : suc i ≡ suc j = o (suc i) (suc j) (let l : suc i < suc (length xs) = omega arith in l) e in omega arith
+
+once_head : (x : Tile) (xs : List Tile) → Once (x ∷ xs) → Contains xs x → ⊥
+once_head x xs o c =
+    let a = at_contains xs x c in
+    let s : 0 ≡ suc a.0 = o 0 (suc a.0) (let l : 0 < suc (length xs) = omega arith in l) (sym a.1) in omega arith
+
+once_append : (xs ys : List Tile) → Once xs → Once ys → ((x : Tile) → Contains xs x → Contains ys x → ⊥) → Once (xs ++ ys)
+once_append [] ys o p apart = p
+once_append (x ∷ xs) ys o p apart =
+    once_cons x (xs ++ ys)
+    (λ c. out (Contains-append_cases xs ys x c))
+    (once_append xs ys (once_tail x xs o) p (λ y a b. apart y (Contains-append_right (x ∷ []) xs y a) b))
+  where
+    out : Contains xs x ⊎ Contains ys x → ⊥
+    out (inl c) = once_head x xs o c
+    out (inr c) = apart x (Contains-append_left (x ∷ []) xs x (0, lit< tt, refl)) c
+
+-- the tiles of one list stand in another that is at least as long
+length_le : (xs ys : List Tile) → Once xs → ((t : Tile) → Contains xs t → Contains ys t) → length xs ≤ length ys
+length_le [] ys o into = omega arith
+length_le (x ∷ xs) ys o into =
+    let c : Contains ys x = into x (Contains-append_left (x ∷ []) xs x (0, lit< tt, refl)) in
+    let p : IsPermutation ys (x ∷ remove ys c.0) = IsPermutation-remove ys c.0 x c.1 (sym c.2) in
+    let n : length (x ∷ remove ys c.0) ≡ length ys = length_permutation ys (x ∷ remove ys c.0) p in
+    let m : suc (length (remove ys c.0)) ≡ length ys = n in
+    let rest : length xs ≤ length (remove ys c.0) = length_le xs (remove ys c.0) (once_tail x xs o)
+    (λ t h. left (remove ys c.0) t h (Contains-append_cases (x ∷ []) (remove ys c.0) t
+    (Contains-permutation ys (x ∷ remove ys c.0) t p (into t (Contains-append_right (x ∷ []) xs t h))))) in
+    let goal : suc (length xs) ≤ length ys = omega arith in goal
+  where
+    left : (zs : List Tile) (t : Tile) → Contains xs t → Contains (x ∷ []) t ⊎ Contains zs t → Contains zs t
+    left zs t h (inl i) = absurd (once_head x xs o (subst (λ y. Contains xs y) (sym (in_one x t i)) h))
+    left zs t h (inr i) = i
+
+-- a set has one count
+pub HasCount-only : {M : Tile → Type 0} (m n : ℕ) → HasCount M m → HasCount M n → m ≡ n
+HasCount-only m n a b =
+    let p : length a.tiles ≤ length b.tiles = length_le a.tiles b.tiles a.listed.once (λ t c. (b.listed.exact t).1 ((a.listed.exact t).0 c)) in
+    let q : length b.tiles ≤ length a.tiles = length_le b.tiles a.tiles b.listed.once (λ t c. (a.listed.exact t).1 ((b.listed.exact t).0 c)) in
+    let x = a.counted in let y = b.counted in omega arith
+
+pub HasCount-none : {M : Tile → Type 0} → ((t : Tile) → M t → ⊥) → HasCount M 0
+HasCount-none out = record {
+  tiles = [];
+  listed = record { exact = λ t. (λ c. absurd (not_in_none t c), λ m. absurd (out t m)); once = once_none };
+  counted = refl;
+}
+
+pub HasCount-iff : {A B : Tile → Type 0} (n : ℕ) → ((t : Tile) → A t ↔ B t) → HasCount A n → HasCount B n
+HasCount-iff n same a = record {
+  tiles = a.tiles;
+  listed = record { exact = λ t. (λ c. (same t).0 ((a.listed.exact t).0 c), λ m. (a.listed.exact t).1 ((same t).1 m)); once = a.listed.once };
+  counted = a.counted;
+}
+
+pub HasCount-one : {M : Tile → Type 0} (x : Tile) → M x → ((t : Tile) → M t → x ≡ t) → HasCount M 1
+HasCount-one {M} x m only = record {
+  tiles = x ∷ [];
+  listed = record {
+    exact = λ t. (λ c. subst M (in_one x t c) m, λ k. subst (λ y. Contains (x ∷ []) y) (only t k) (0, lit< tt, refl));
+    once = once_cons x [] (not_in_none x) once_none;
+  };
+  counted = refl;
+}
+
+pub HasCount-union : {A B M : Tile → Type 0} (m n : ℕ) → HasCount A m → HasCount B n → ((t : Tile) → A t → B t → ⊥)
+    → ((t : Tile) → (A t ⊎ B t) ↔ M t) → HasCount M (m + n)
+HasCount-union {A} {B} {M} m n a b apart same = record {
+  tiles = a.tiles ++ b.tiles;
+  listed = record {
+    exact = λ t. (λ c. (same t).0 (split t (Contains-append_cases a.tiles b.tiles t c)), λ k. join t ((same t).1 k));
+    once = once_append a.tiles b.tiles a.listed.once b.listed.once (λ t x y. apart t ((a.listed.exact t).0 x) ((b.listed.exact t).0 y));
+  };
+  counted = let x = a.counted in let y = b.counted in let e : length (a.tiles ++ b.tiles) ≡ length a.tiles + length b.tiles = length-append a.tiles b.tiles in omega arith;
+}
+  where
+    split : (t : Tile) → Contains a.tiles t ⊎ Contains b.tiles t → A t ⊎ B t
+    split t (inl c) = inl ((a.listed.exact t).0 c)
+    split t (inr c) = inr ((b.listed.exact t).0 c)
+
+    join : (t : Tile) → A t ⊎ B t → Contains (a.tiles ++ b.tiles) t
+    join t (inl k) = Contains-append_left a.tiles b.tiles t ((a.listed.exact t).1 k)
+    join t (inr k) = Contains-append_right a.tiles b.tiles t ((b.listed.exact t).1 k)
+
+pub HasCount-same : {M : Tile → Type 0} (m n : ℕ) → m ≡ n → HasCount M m → HasCount M n
+HasCount-same {M} m n e h = subst (λ k. HasCount M k) e h
+
+-- what one source reaches
+pub reach_count : (head : SourceHead) (n : ℕ) → HasCount (Reaches head) n → IsReachCount head n
+reach_count head n h = record { tiles = h.tiles; listed = h.listed; counted = h.counted }
+
+pub count_of_reach : (head : SourceHead) (n : ℕ) → IsReachCount head n → HasCount (Reaches head) n
+count_of_reach head n h = record { tiles = h.tiles; listed = h.listed; counted = h.counted }
+
+-- a list of sources has one load
+pub IsLoad-only : (heads : List SourceHead) (m n : ℕ) → IsLoad heads m → IsLoad heads n → m ≡ n
+IsLoad-only [] m n a b = a ∙ sym b
+IsLoad-only (head ∷ heads) m n a b =
+    let e : a.0 ≡ b.0 = HasCount-only a.0 b.0 (count_of_reach head a.0 a.2.0) (count_of_reach head b.0 b.2.0) in
+    let f : a.1 ≡ b.1 = IsLoad-only heads a.1 b.1 a.2.1 b.2.1 in
+    let x : m ≡ a.0 + a.1 = a.2.2 in let y : n ≡ b.0 + b.1 = b.2.2 in omega arith
+
+-- the load of one source more
+pub IsLoad-push : (heads : List SourceHead) (head : SourceHead) (m n : ℕ) → IsLoad heads m → IsReachCount head n → IsLoad (heads ++ head ∷ []) (m + n)
+IsLoad-push [] head m n a r = let e : m ≡ 0 = a in (n, 0, (r, refl, omega arith))
+IsLoad-push (h ∷ heads) head m n a r =
+    let x : m ≡ a.0 + a.1 = a.2.2 in
+    (a.0, a.1 + n, (a.2.0, IsLoad-push heads head a.1 n a.2.1 r, omega arith))

@@ -1,0 +1,9 @@
+pub mod AxisLaws
+pub mod NumberLaws
+pub mod ReachLaws
+pub mod CountLaws
+pub mod TileNumbers
+pub mod RectangleLaws
+pub mod LoadLaws
+pub mod AddLaws
+pub mod OrderLaws

@@ -1,0 +1,5 @@
+pub mod Axis
+pub mod Numbers
+pub mod Reach
+pub mod Count
+pub mod Touched
