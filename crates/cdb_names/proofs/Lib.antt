@@ -1,0 +1,12 @@
+pub mod Tools
+pub mod DigitLaws
+pub mod NumberLaws
+pub mod FieldLaws
+pub mod FolderLaws
+pub mod NameLaws
+pub mod SameTile
+pub mod NameResults
+pub mod PathFieldLaws
+pub mod PathLaws
+pub mod PathResults
+pub mod VersionLaws

@@ -1,0 +1,63 @@
+-- What reading a name gives, by tiles.
+use Rattle.std.proofs.Common.{◌≡◌, ℕ, ◌+◌, ◌-◌, ◌≤◌, List, [], ◌∷◌, length, take, None, Result, Ok, Err, refl, ap, sym, ◌∙◌, arith, length-append}
+use Rattle.std.specs.Prelude.{codes, IfOk, IfErr}
+use Rattle.cdb_grid.specs.declared.tile.Tile.{Tile}
+use Rattle.cdb_model.specs.declared.name_error.NameError.{NameError}
+use Rattle.cdb_model.specs.Names.{Text, lat_text, lon_text, dataset_text, level_text, up_text, right_text, name_fields, name, spell, FirstWrong}
+use Rattle.cdb_names.specs.Reading.{name_at, Spelled, spelled, Gives}
+use Rattle.cdb_names.proofs.FolderLaws.{InFolder}
+use Rattle.cdb_names.proofs.NameLaws.{name_says, name_again}
+use Rattle.cdb_names.proofs.SameTile.{same_tile}
+
+-- the name of the numbers
+abbrev name_of : Spelled → Text
+name_of s = spell (lat_text s.lat ∷ lon_text s.lon ∷ dataset_text s.family ∷ level_text s.level ∷ up_text s.up ∷ right_text s.right ∷ codes ".tif" ∷ []) []
+
+pub same_name : (a b : Tile) → spelled a ≡ spelled b → name a ≡ name b
+same_name a b e = ap name_of e
+
+-- fields in front make a text no shorter
+pub spell_longer : (fs : List Text) (rest : Text) → length rest ≤ length (spell fs rest)
+spell_longer [] rest = omega arith
+spell_longer (f ∷ fs) rest = omega (arith, spell_longer fs rest, length-append f (spell fs rest))
+
+-- where the rest begins
+pub begins_at : (text rest : Text) (fs : List Text) → text ≡ spell fs rest → (length text - length rest) + length rest ≡ length text
+begins_at text rest fs e = omega (arith, spell_longer fs rest, ap length e)
+
+-- every tile stands in no folder
+unfoldable pub anywhere : Tile → InFolder None
+anywhere t = record { tile = t; lat = refl; lon = refl; dataset = refl; level = refl; up = refl }
+
+pub name_found : (text : Text) (r : Result Tile NameError) → Gives spelled r (name_at None text text) → IfOk r (λ t. text ≡ name t)
+name_found text (Ok t) e = let s = name_says None tt text text (Ok (spelled t)) e in s.2 ∙ same_name s.0.tile t s.1
+name_found text (Err e) h = tt
+
+pub name_only : (text : Text) (r : Result Tile NameError) → Gives spelled r (name_at None text text) → (t : Tile) → text ≡ name t → r ≡ Ok t
+unfolding anywhere
+name_only text (Ok found) e t is =
+    let again : name_at None text text ≡ Ok (spelled t) = ap (λ (x : Text). name_at None text x) is ∙ name_again None tt text (anywhere t) in
+    let k : ◌≡◌ {A = Result Spelled NameError} (Ok (spelled found)) (Ok (spelled t)) = sym e ∙ again in
+    let s : spelled found ≡ spelled t = ok_is (spelled found) (spelled t) k in
+    ap Ok (same_tile found t s)
+  where
+    ok_is : (a b : Spelled) → ◌≡◌ {A = Result Spelled NameError} (Ok a) (Ok b) → a ≡ b
+    ok_is a b h = cc
+name_only text (Err wrong) e t is =
+    let again : name_at None text text ≡ Ok (spelled t) = ap (λ (x : Text). name_at None text x) is ∙ name_again None tt text (anywhere t) in
+    let k : ◌≡◌ {A = Result Spelled NameError} (Err wrong) (Ok (spelled t)) = sym e ∙ again in
+    absurd cc
+
+pub name_wrong : (text : Text) (r : Result Tile NameError) → Gives spelled r (name_at None text text) → IfErr r (λ e. FirstWrong name_fields text e.place)
+unfolding anywhere
+name_wrong text (Ok t) e = tt
+name_wrong text (Err wrong) e =
+    let s = name_says None tt text text (Err wrong) e in
+    let stops = s.1 in
+    let begins = stops.begins in
+    let place : length text - length s.0 ≡ wrong.place = ap (λ (x : NameError). x.place) s.2 in
+    record {
+      rest = s.0;
+      stops = record { value = stops.value.tile; count = stops.count; begins = begins; no_more = λ other after b. stops.no_more (anywhere other) after b };
+      place_is = ap (λ (k : ℕ). k + length s.0) (sym place) ∙ begins_at text s.0 (take stops.count (name_fields stops.value.tile)) begins.parts;
+    }

@@ -1,0 +1,24 @@
+//! File names and paths of tiles (OGC CDB 1.2 Volume 1, tile naming).
+#![tactic(auto)]
+
+mod digits;
+mod fields;
+mod folder;
+mod laws;
+mod path_reading;
+mod paths;
+mod reading;
+mod writing;
+
+pub use cdb_model::NameError;
+pub use laws::versions_are_apart;
+pub use path_reading::read_path;
+pub use paths::{
+    folder_of, metadata_folder, record_path, source_path, sources_folder, version_folder,
+    write_path,
+};
+pub use reading::read_name;
+pub use writing::write_name;
+
+#[cfg(test)]
+mod tests;
