@@ -1,0 +1,3 @@
+pub mod MomentLaws
+pub mod StateLaws
+pub mod WholeLaws
