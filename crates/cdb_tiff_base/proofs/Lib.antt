@@ -1,0 +1,2 @@
+pub mod WrittenHead
+pub mod WrittenTile

@@ -1,0 +1,9 @@
+pub mod Numbers
+pub mod Entries
+pub mod First
+pub mod Directory
+pub mod Strips
+pub mod Causes
+pub mod Pixels
+pub mod WrittenTile
+pub mod Words
