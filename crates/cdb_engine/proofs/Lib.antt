@@ -1,0 +1,3 @@
+pub mod SourceLists
+pub mod Geocells
+pub mod ValueLaws

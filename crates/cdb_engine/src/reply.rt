@@ -1,0 +1,22 @@
+/// A publication that was begun: its version, and how many files it will have.
+#[derive(Clone, Copy, Debug, PartialEq, Eq)]
+pub struct Begun {
+    pub version: u32,
+    pub files: u32,
+}
+
+/// A session that was opened: its number, and the version that it answers from.
+#[derive(Clone, Copy, Debug, PartialEq, Eq)]
+pub struct Opened {
+    pub id: u32,
+    pub version: u32,
+}
+
+/// The reply to a request for a tile.
+#[derive(Clone, Copy, Debug, PartialEq, Eq)]
+pub enum Reply {
+    /// No source reaches the tile.
+    Missing,
+    /// The tile's file has so many bytes, and `Engine::reply` gives them.
+    Bytes(u32),
+}
