@@ -1,0 +1,11 @@
+pub mod Parts
+pub mod Digits
+pub mod Geocells
+pub mod PathLemmas
+pub mod PostLemmas
+pub mod Rows
+pub mod LineLemmas
+pub mod JoinedWords
+pub mod NumbersBack
+pub mod WritingBack
+pub mod ReadForms
