@@ -1,0 +1,330 @@
+-- How a run ends.
+use Rattle.std.proofs.Common.{◌≡◌, ◌≢◌, ℕ, ◌+◌, ◌<◌, ◌^◌, List, [], ◌∷◌, ◌++◌, length, Option, None, Some, IfSome, inl, inr, refl, ap, sym, ◌∙◌, append_assoc, append-nil, subst, arith, length-append}
+use Rattle.std.specs.Io.KnownBytes.{Appends, Keeps, Consumes, IsAtEnd}
+use Rattle.std.proofs.KnownBytes.{Appends-nil, Appends-trans, Consumes-nil, Consumes-trans, Consumes-kept}
+use Rattle.cdb_model.specs.Text.{Text}
+use Rattle.cdb_model.specs.Machine.{State, start}
+use Rattle.cdb_model.specs.Run.{texts_of}
+use Rattle.cdb_front.specs.Devices.{WritesPart}
+use Rattle.cdb_front.specs.Progress.{Sofar, Answered, IsQuit, Broken, UpTo}
+use Rattle.cdb_front.specs.Reading.{Reading, Stops}
+use Rattle.cdb_front.specs.Outcome.{Outcome, status_line, Aims, Writes}
+use Rattle.cdb_front.specs.declared.status.Status.{Status}
+use Rattle.cdb_front.specs.declared.status.Status.TheVariants.{Done, Memory, InputFault, OutputFault, TooLong}
+use Rattle.cdb_front.proofs.Progress.{sofar_begins}
+
+pub reading_begins : (left written : Option (List ℕ)) → Reading left left written written start (Some []) 0
+reading_begins left written = record { read = []; input = Consumes-nil left; sofar = sofar_begins written; count = refl }
+
+-- memory was refused before anything was read
+pub stops_memory : (left written : Option (List ℕ)) → Stops left left written written Memory
+stops_memory left written =
+    record {
+      read = [];
+      unread = [];
+      taken = Consumes-nil left;
+      lines = [];
+      rest = [];
+      cut = record { joined = refl; whole = tt; open_end = tt };
+      no_quit = tt;
+      aim = Memory;
+      aims = refl;
+      heard = [];
+      hears = refl;
+      answers = [];
+      state = start;
+      run = refl;
+      wrote = [];
+      appended = Appends-nil written;
+      writes = refl;
+      ends = (refl, refl);
+    }
+
+-- a read failed, and took nothing
+pub stops_input_fault : (left left' left'' written written' : Option (List ℕ)) (state : State) (kept : Option (List ℕ)) (taken : ℕ)
+    → Reading left left' written written' state kept taken → Keeps left' left'' → taken < 2 ^ 32 → Stops left left'' written written' InputFault
+stops_input_fault left left' left'' written written' state kept taken r keeps few =
+    record {
+      read = r.read;
+      unread = [];
+      taken = subst (Consumes left left'') (sym (append-nil r.read)) (Consumes-kept left left' left'' r.read r.input keeps);
+      lines = r.sofar.lines;
+      rest = r.sofar.rest;
+      cut = r.sofar.cut;
+      no_quit = r.sofar.no_quit;
+      aim = InputFault;
+      aims = refl;
+      heard = r.sofar.lines;
+      hears = refl;
+      answers = r.sofar.answers;
+      state = state;
+      run = r.sofar.run;
+      wrote = texts_of r.sofar.answers;
+      appended = r.sofar.appended;
+      writes = refl;
+      ends = (refl, subst (λ n. n < 2 ^ 32) r.count few);
+    }
+
+-- the bytes that may be taken were taken
+pub stops_too_long : (left left' written written' : Option (List ℕ)) (state : State) (kept : Option (List ℕ)) (taken : ℕ)
+    → Reading left left' written written' state kept taken → taken ≡ 2 ^ 32 → Stops left left' written written' TooLong
+stops_too_long left left' written written' state kept taken r all =
+    record {
+      read = r.read;
+      unread = [];
+      taken = subst (Consumes left left') (sym (append-nil r.read)) r.input;
+      lines = r.sofar.lines;
+      rest = r.sofar.rest;
+      cut = r.sofar.cut;
+      no_quit = r.sofar.no_quit;
+      aim = TooLong;
+      aims = refl;
+      heard = r.sofar.lines;
+      hears = refl;
+      answers = r.sofar.answers;
+      state = state;
+      run = r.sofar.run;
+      wrote = texts_of r.sofar.answers;
+      appended = r.sofar.appended;
+      writes = refl;
+      ends = (refl, sym r.count ∙ all);
+    }
+
+-- `quit` was among the bytes of a piece
+pub stops_quit : (left left' left'' written written' written'' : Option (List ℕ)) (state next : State) (kept : Option (List ℕ)) (taken : ℕ) (piece : Text)
+    → (r : Reading left left' written written' state kept taken) → Consumes left' left'' piece
+    → UpTo piece (λ front. Answered IsQuit (r.read ++ front) written written'' next) → Stops left left'' written written'' Done
+stops_quit left left' left'' written written' written'' state next kept taken piece r more up =
+    let a = up.reached in
+    record {
+      read = r.read ++ up.front;
+      unread = up.back;
+      taken = subst (Consumes left left'') (ap (λ l. r.read ++ l) up.joined ∙ sym (append_assoc r.read up.front up.back)) (Consumes-trans left left' left'' r.read piece r.input more);
+      lines = a.lines;
+      rest = a.rest;
+      cut = a.cut;
+      no_quit = a.no_quit;
+      aim = Done;
+      aims = refl;
+      heard = a.lines ++ a.rest ∷ [];
+      hears = refl;
+      answers = a.answers;
+      state = next;
+      run = a.run;
+      wrote = texts_of a.answers;
+      appended = a.appended;
+      writes = refl;
+      ends = inl a.last;
+    }
+
+-- an answer to a line of a piece wasn't written whole
+pub stops_broken : (left left' left'' written written' written'' : Option (List ℕ)) (state : State) (kept : Option (List ℕ)) (taken : ℕ) (piece : Text)
+    → (r : Reading left left' written written' state kept taken) → Consumes left' left'' piece
+    → UpTo piece (λ front. Broken (r.read ++ front) written written'') → Stops left left'' written written'' OutputFault
+stops_broken left left' left'' written written' written'' state kept taken piece r more up =
+    let b = up.reached in
+    record {
+      read = r.read ++ up.front;
+      unread = up.back;
+      taken = subst (Consumes left left'') (ap (λ l. r.read ++ l) up.joined ∙ sym (append_assoc r.read up.front up.back)) (Consumes-trans left left' left'' r.read piece r.input more);
+      lines = b.lines;
+      rest = b.rest;
+      cut = b.cut;
+      no_quit = b.no_quit;
+      aim = Done;
+      aims = λ e. cc;
+      heard = b.lines ++ b.rest ∷ [];
+      hears = refl;
+      answers = b.answers;
+      state = b.state;
+      run = b.run;
+      wrote = b.written.part;
+      appended = b.written.appended;
+      writes = (b.written.rest, b.written.joined, b.written.short);
+      ends = tt;
+    }
+
+-- the piece was taken whole
+pub reading_more : (left left' left'' written written' written'' : Option (List ℕ)) (state next : State) (kept new : Option (List ℕ)) (taken count : ℕ) (piece : Text)
+    → (r : Reading left left' written written' state kept taken) → Consumes left' left'' piece → length piece ≡ count
+    → Sofar (r.read ++ piece) written written'' next new → Reading left left'' written written'' next new (taken + count)
+reading_more left left' left'' written written' written'' state next kept new taken count piece r more long s =
+    record {
+      read = r.read ++ piece;
+      input = Consumes-trans left left' left'' r.read piece r.input more;
+      sofar = s;
+      count = omega (arith, r.count, length-append r.read piece);
+    }
+
+-- the last line, which no line feed ends, was answered at the end of the input
+pub stops_done : (P : Text → Type 0) (left left' left'' written written' written'' : Option (List ℕ)) (state next : State) (kept : Option (List ℕ)) (taken : ℕ)
+    → (r : Reading left left' written written' state kept taken) → Consumes left' left'' [] → IsAtEnd left''
+    → Answered P r.read written written'' next → Stops left left'' written written'' Done
+stops_done P left left' left'' written written' written'' state next kept taken r more end a =
+    record {
+      read = r.read;
+      unread = [];
+      taken = Consumes-trans left left' left'' r.read [] r.input more;
+      lines = a.lines;
+      rest = a.rest;
+      cut = a.cut;
+      no_quit = a.no_quit;
+      aim = Done;
+      aims = refl;
+      heard = a.lines ++ a.rest ∷ [];
+      hears = refl;
+      answers = a.answers;
+      state = next;
+      run = a.run;
+      wrote = texts_of a.answers;
+      appended = a.appended;
+      writes = refl;
+      ends = inr (refl, end);
+    }
+
+pub stops_broken_at_end : (left left' left'' written written' written'' : Option (List ℕ)) (state : State) (kept : Option (List ℕ)) (taken : ℕ)
+    → (r : Reading left left' written written' state kept taken) → Consumes left' left'' []
+    → Broken r.read written written'' → Stops left left'' written written'' OutputFault
+stops_broken_at_end left left' left'' written written' written'' state kept taken r more b =
+    record {
+      read = r.read;
+      unread = [];
+      taken = Consumes-trans left left' left'' r.read [] r.input more;
+      lines = b.lines;
+      rest = b.rest;
+      cut = b.cut;
+      no_quit = b.no_quit;
+      aim = Done;
+      aims = λ e. cc;
+      heard = b.lines ++ b.rest ∷ [];
+      hears = refl;
+      answers = b.answers;
+      state = b.state;
+      run = b.run;
+      wrote = b.written.part;
+      appended = b.written.appended;
+      writes = (b.written.rest, b.written.joined, b.written.short);
+      ends = tt;
+    }
+
+-- ---- the line of a status
+
+-- a status other than `OutputFault` is what the run aimed at, and its text was written whole
+aimed : (status aim : Status) → status ≢ OutputFault → Aims status aim → aim ≡ status
+aimed Done aim other a = a
+aimed Memory aim other a = a
+aimed InputFault aim other a = a
+aimed OutputFault aim other a = absurd (other refl)
+aimed TooLong aim other a = a
+
+whole : (status : Status) (text wrote : Text) → status ≢ OutputFault → Writes status text wrote → wrote ≡ text
+whole Done text wrote other w = w
+whole Memory text wrote other w = w
+whole InputFault text wrote other w = w
+whole OutputFault text wrote other w = absurd (other refl)
+whole TooLong text wrote other w = w
+
+more_left : (xs ys : Text) → xs ≢ [] → xs ++ ys ≢ []
+more_left [] ys some e = some refl
+more_left (x ∷ xs) ys some e = cc
+
+-- after the line of the status what was written is the whole text, or a beginning of it as before
+with_line : (status aim : Status) (text wrote : Text) → Aims status aim → Writes status text wrote → Writes status (text ++ status_line aim) (wrote ++ status_line status)
+with_line Done aim text wrote a w = ap (λ l. wrote ++ l) (ap status_line (sym a)) ∙ ap (λ l. l ++ status_line aim) w
+with_line Memory aim text wrote a w = ap (λ l. wrote ++ l) (ap status_line (sym a)) ∙ ap (λ l. l ++ status_line aim) w
+with_line InputFault aim text wrote a w = ap (λ l. wrote ++ l) (ap status_line (sym a)) ∙ ap (λ l. l ++ status_line aim) w
+with_line OutputFault aim text wrote a w = (
+  w.0 ++ status_line aim,
+  ap (λ l. l ++ status_line aim) w.1 ∙ append_assoc wrote w.0 (status_line aim) ∙ ap (λ l. l ++ (w.0 ++ status_line aim)) (sym (append-nil wrote)),
+  more_left w.0 (status_line aim) w.2,
+)
+with_line TooLong aim text wrote a w = ap (λ l. wrote ++ l) (ap status_line (sym a)) ∙ ap (λ l. l ++ status_line aim) w
+
+-- the line of the status was written
+pub outcome_ok : (left left' written written' written'' : Option (List ℕ)) (status : Status)
+    → Stops left left' written written' status → Appends written' written'' (status_line status) → Outcome left left' written written'' status
+outcome_ok left left' written written' written'' status s line =
+    record {
+      read = s.read;
+      unread = s.unread;
+      taken = s.taken;
+      lines = s.lines;
+      rest = s.rest;
+      cut = s.cut;
+      no_quit = s.no_quit;
+      aim = s.aim;
+      aims = s.aims;
+      heard = s.heard;
+      hears = s.hears;
+      answers = s.answers;
+      state = s.state;
+      run = s.run;
+      wrote = s.wrote ++ status_line status;
+      appended = Appends-trans written written' written'' s.wrote (status_line status) s.appended line;
+      writes = with_line status s.aim (texts_of s.answers) s.wrote s.aims s.writes;
+      ends = s.ends;
+    }
+
+-- the line of the status wasn't written whole
+pub outcome_fault : (left left' written written' written'' : Option (List ℕ)) (status : Status) → status ≢ OutputFault
+    → Stops left left' written written' status → WritesPart written' written'' (status_line status) → Outcome left left' written written'' OutputFault
+outcome_fault left left' written written' written'' status other s part =
+    let e = aimed status s.aim other s.aims in
+    let w = whole status (texts_of s.answers) s.wrote other s.writes in
+    record {
+      read = s.read;
+      unread = s.unread;
+      taken = s.taken;
+      lines = s.lines;
+      rest = s.rest;
+      cut = s.cut;
+      no_quit = s.no_quit;
+      aim = s.aim;
+      aims = λ f. other (sym e ∙ f);
+      heard = s.heard;
+      hears = s.hears;
+      answers = s.answers;
+      state = s.state;
+      run = s.run;
+      wrote = s.wrote ++ part.part;
+      appended = Appends-trans written written' written'' s.wrote part.part s.appended part.appended;
+      writes = (
+        part.rest,
+        ap (λ l. l ++ status_line s.aim) (sym w) ∙ ap (λ l. s.wrote ++ l) (ap status_line e ∙ part.joined) ∙ sym (append_assoc s.wrote part.part part.rest),
+        part.short,
+      );
+      ends = tt;
+    }
+
+no_part : (old new : Option (List ℕ)) → WritesPart old new [] → ⊥
+no_part old new p = by p.part p.rest p.joined p.short
+  where
+    by : (part rest : Text) → [] ≡ part ++ rest → rest ≢ [] → ⊥
+    by [] rest e some = some (sym e)
+    by (x ∷ part) rest e some = cc
+
+pub outcome_err : (left left' written written' written'' : Option (List ℕ)) (status : Status)
+    → Stops left left' written written' status → WritesPart written' written'' (status_line status) → Outcome left left' written written'' OutputFault
+outcome_err left left' written written' written'' Done s part = outcome_fault left left' written written' written'' Done (λ e. cc) s part
+outcome_err left left' written written' written'' Memory s part = outcome_fault left left' written written' written'' Memory (λ e. cc) s part
+outcome_err left left' written written' written'' InputFault s part = outcome_fault left left' written written' written'' InputFault (λ e. cc) s part
+outcome_err left left' written written' written'' OutputFault s part = absurd (no_part written' written'' part)
+outcome_err left left' written written' written'' TooLong s part = outcome_fault left left' written written' written'' TooLong (λ e. cc) s part
+
+pub reading_at_start : (left written : Option (List ℕ)) (state : State) (kept : Option (List ℕ)) → state ≡ start → kept ≡ Some [] → Reading left left written written state kept 0
+reading_at_start left written state kept a b =
+    subst (λ (s : State). Reading left left written written s kept 0) (sym a)
+    (subst (λ (k : Option (List ℕ)). Reading left left written written start k 0) (sym b) (reading_begins left written))
+
+-- an input that has fewer bytes than may be taken isn't too long
+too_few : (left left' written written' : Option (List ℕ)) → Outcome left left' written written' TooLong → IfSome left (λ bytes. length bytes < 2 ^ 32 → ⊥)
+too_few None left' written written' o = tt
+too_few (Some xs) None written written' o = absurd o.taken
+too_few (Some xs) (Some ys) written written' o = λ few. absurd (omega (arith, ap length o.taken, o.ends.1, length-append (o.read ++ o.unread) ys, length-append o.read o.unread))
+
+pub in_time : (left left' written written' : Option (List ℕ)) (status : Status) → Outcome left left' written written' status → IfSome left (λ bytes. length bytes < 2 ^ 32 → status ≢ TooLong)
+in_time left left' written written' status o = by left (λ e. too_few left left' written written' (subst (Outcome left left' written written') e o))
+  where
+    by : (known : Option (List ℕ)) → (status ≡ TooLong → IfSome known (λ bytes. length bytes < 2 ^ 32 → ⊥)) → IfSome known (λ bytes. length bytes < 2 ^ 32 → status ≢ TooLong)
+    by None h = tt
+    by (Some bytes) h = λ few e. h e few

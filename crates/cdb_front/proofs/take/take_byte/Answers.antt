@@ -1,0 +1,16 @@
+use Rattle.std.proofs.Common.{◌≡◌, ℕ, subst, sym, List, ◌++◌, ◌∷◌, [], Option, arith}
+use Rattle.cdb_front.specs.Progress.{Sofar}
+use Rattle.cdb_front.proofs.Progress.{byte_kept, line_passed}
+use Rattle.cdb_front.proofs.take.take_byte.Goals as goal
+
+pub returns-then-byte-ne10-clause-byte : goal.returns-then-byte-ne10-clause-byte
+returns-then-byte-ne10-clause-byte g c =
+    λ read old sofar. byte_kept read c.args.byte old (g.O.Output.written c.args.output.now) c.args.engine.now.state c.args.maker.now c.push.new.self c.push.ensures c.if-byte-ne10.true sofar
+
+pub returns-in-More-clause-byte : goal.returns-in-More-clause-byte
+returns-in-More-clause-byte g c =
+    λ read old sofar.
+    let passed = line_passed read old (g.O.Output.written c.take_line.new.output) c.take_line.new.engine.state (c.in-More.ensures.line read old sofar) in
+    let feed : 10 ≡ c.args.byte = omega arith in
+    let P : ℕ → Type 0 = λ b. Sofar (read ++ b ∷ []) old (g.O.Output.written c.take_line.new.output) c.take_line.new.engine.state c.clear.new.self in
+    subst P feed (subst (λ (k : Option (List ℕ)). Sofar (read ++ 10 ∷ []) old (g.O.Output.written c.take_line.new.output) c.take_line.new.engine.state k) (sym c.clear.ensures) passed)

@@ -1,0 +1,34 @@
+-- What the devices of the script do, and what those in memory are seen as.
+use Rattle.std.specs.Prelude.{◌≡◌, ◌≢◌, ℕ, List, [], ◌∷◌, ◌++◌, Option}
+use Rattle.std.specs.Io.KnownBytes.{Appends, Keeps}
+
+-- a part of a piece was written, and not all of it
+pub record WritesPart (old new : Option (List ℕ)) (piece : List ℕ) : Type 0 where
+  pub part : List ℕ
+  pub rest : List ℕ
+  pub joined : piece ≡ part ++ rest
+  pub short : rest ≢ []
+  pub appended : Appends old new part
+
+-- what a failed write leaves: nothing of an empty piece, and else a part
+abbrev pub WritesLess : Option (List ℕ) → Option (List ℕ) → List ℕ → Type 0
+WritesLess old new [] = Keeps old new
+WritesLess old new (byte ∷ piece) = WritesPart old new (byte ∷ piece)
+
+-- an input in memory: what is left of it, how many bytes it gives at most in a call, the numbers of the calls that fail, and
+-- how many calls there were and how many failed
+pub record Supply : Type 0 where
+  pub left : List ℕ
+  pub most : ℕ
+  pub fails : List ℕ
+  pub calls : ℕ
+  pub faults : ℕ
+
+-- an output in memory: what was written to it, the numbers of the calls that fail, and how many calls there were, how many
+-- failed and how often it was refused memory
+pub record Receipt : Type 0 where
+  pub written : List ℕ
+  pub fails : List ℕ
+  pub calls : ℕ
+  pub faults : ℕ
+  pub refused : ℕ

@@ -1,0 +1,7 @@
+pub mod Devices
+pub mod Codes
+pub mod Kept
+pub mod Answers
+pub mod Progress
+pub mod Outcome
+pub mod Reading

@@ -1,0 +1,81 @@
+-- How a run ended, and what it wrote.
+use Rattle.std.specs.Prelude.{◌≡◌, ◌≢◌, ◌⊎◌, ℕ, ◌<◌, ◌≤◌, ◌^◌, List, [], ◌∷◌, ◌++◌, length, Option, codes}
+use Rattle.std.specs.List.{flat_map}
+use Rattle.std.specs.Io.KnownBytes.{Appends, Consumes, IsAtEnd}
+use Rattle.cdb_model.specs.Text.{Text, ended}
+use Rattle.cdb_model.specs.Commands as said
+use Rattle.cdb_model.specs.Machine.{State, start}
+use Rattle.cdb_model.specs.Machine as machine
+use Rattle.cdb_model.specs.Run.{Run, Cut, HaveNoFeed, HaveNoQuit, line_command, commands_of, texts_of}
+use Rattle.cdb_front.specs.declared.status.Status.{Status}
+use Rattle.cdb_front.specs.declared.status.Status.TheVariants.{Done, Memory, InputFault, OutputFault, TooLong}
+
+-- the line that is written before a run ends so
+abbrev pub status_line : Status → Text
+status_line Done = []
+status_line Memory = ended (codes "cdb: out of memory")
+status_line InputFault = ended (codes "cdb: input fault")
+status_line OutputFault = []
+status_line TooLong = ended (codes "cdb: input too long")
+
+-- the lines that were answered: all that were read where the run is done, the whole ones where the input failed or was too
+-- long, none where memory was refused at the start
+abbrev pub Hears : Status → List Text → Text → List Text → Type 0
+Hears Done lines rest heard = heard ≡ lines ++ rest ∷ []
+Hears Memory lines rest heard = heard ≡ []
+Hears InputFault lines rest heard = heard ≡ lines
+Hears OutputFault lines rest heard = ⊥
+Hears TooLong lines rest heard = heard ≡ lines
+
+-- a run whose output failed would have ended otherwise, had the output taken more
+abbrev pub Aims : Status → Status → Type 0
+Aims OutputFault aim = aim ≢ OutputFault
+Aims status aim = aim ≡ status
+
+-- the text was written whole, or where the output failed a beginning of it
+abbrev pub Writes : Status → Text → Text → Type 0
+Writes OutputFault text wrote = (rest : Text) × (text ≡ wrote ++ rest) × (rest ≢ [])
+Writes status text wrote = wrote ≡ text
+
+-- why the run ended: `quit` or the end of the input; a failed read; 2 ^ 32 bytes; nothing was read yet
+abbrev pub Ends : Status → Option (List ℕ) → Text → Text → Text → Type 0
+Ends Done left read unread rest = (line_command rest ≡ said.quit) ⊎ ((unread ≡ []) × IsAtEnd left)
+Ends Memory left read unread rest = (unread ≡ []) × (read ≡ [])
+Ends InputFault left read unread rest = (unread ≡ []) × (length read < 2 ^ 32)
+Ends OutputFault left read unread rest = Unit {0}
+Ends TooLong left read unread rest = (unread ≡ []) × (length read ≡ 2 ^ 32)
+
+-- the line `quit`, with its line feed, stands among the first 2 ^ 32 bytes
+pub record QuitsInTime (bytes : Text) : Type 0 where
+  pub before : List Text
+  pub line : Text
+  pub after : Text
+  pub joined : bytes ≡ flat_map ended (before ++ line ∷ []) ++ after
+  pub whole : HaveNoFeed (before ++ line ∷ [])
+  pub quit : line_command line ≡ said.quit
+  pub in_time : length (flat_map ended (before ++ line ∷ [])) ≤ 2 ^ 32
+
+-- one run of the machine from its start, over the lines that were read, and what was written of it
+pub record Outcome (left left' written written' : Option (List ℕ)) (status : Status) : Type 0 where
+  -- what was taken and used, and what came in the same piece after `quit` or after the answer that wasn't written
+  pub read : Text
+  pub unread : Text
+  pub taken : Consumes left left' (read ++ unread)
+  -- the whole lines and the last piece of a line in it
+  pub lines : List Text
+  pub rest : Text
+  pub cut : Cut read lines rest
+  pub no_quit : HaveNoQuit lines
+  -- the lines that were answered, and the run over them
+  pub aim : Status
+  pub aims : Aims status aim
+  pub heard : List Text
+  pub hears : Hears aim lines rest heard
+  pub answers : List machine.Answer
+  pub state : State
+  pub run : Run start (commands_of heard) answers state
+  -- what was written
+  pub wrote : Text
+  pub appended : Appends written written' wrote
+  pub writes : Writes status (texts_of answers ++ status_line aim) wrote
+  pub ends : Ends status left' read unread rest
