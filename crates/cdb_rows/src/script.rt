@@ -23,10 +23,9 @@ pub const HEAD: [u8; 186] = [
 /// The sizes of the pieces in which an input comes.
 pub const PIECES: [usize; 3] = [1, 3, 4096];
 
-/// Runs a script that comes in pieces of at most `piece` bytes, and gives what was written.
-pub fn run(alloc: Global, script: &[u8], piece: usize) -> Result<(Status, MemOutput), Fail>
-    requires { 0 < piece }
-{
+/// Runs a script that comes in pieces of at most `piece` bytes, or of one byte for 0, and gives what
+/// was written.
+pub fn run(alloc: Global, script: &[u8], piece: usize) -> Result<(Status, MemOutput), Fail> {
     run_with(alloc, script, piece, 0, 0)
 }
 
@@ -37,14 +36,12 @@ pub fn run_with(
     piece: usize,
     read: u64,
     write: u64,
-) -> Result<(Status, MemOutput), Fail>
-    requires { 0 < piece }
-{
+) -> Result<(Status, MemOutput), Fail> {
     let mut reads = Vec::new(alloc);
     reads.push(read)?;
     let mut writes = Vec::new(alloc);
     writes.push(write)?;
-    let mut input = MemInput::new(Vec::from_slice(alloc, script)?, piece, reads);
+    let mut input = MemInput::new(Vec::from_slice(alloc, script)?, piece.max(1), reads);
     let mut output = MemOutput::new(alloc, writes);
     let status = cdb_run(alloc, &mut input, &mut output);
     Ok((status, output))

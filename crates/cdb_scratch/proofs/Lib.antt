@@ -1,0 +1,5 @@
+pub mod UnitLaws
+pub mod ValueLaws
+pub mod CellLaws
+pub mod FrameLaws
+pub mod ReachedLaws

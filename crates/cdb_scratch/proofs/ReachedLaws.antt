@@ -1,0 +1,27 @@
+-- A tile that some source of a list reaches.
+use Rattle.std.proofs.Common.{◌≡◌, ℕ, zero, suc, ◌<◌, List, [], ◌∷◌, map, All, length, get_or, Some, sym, ap, ◌∙◌, subst}
+use Rattle.std.specs.Prelude.{slice_get}
+use Rattle.std.specs.Option.{option_map}
+use Rattle.std.proofs.lemmas.Option.{slice_get-map, slice_get-get_or}
+use Rattle.std.proofs.lemmas.List.Elements.{All-head, All-tail}
+use Rattle.cdb_grid.specs.declared.tile.Tile.{Tile}
+use Rattle.cdb_source.specs.declared.head.SourceHead.{SourceHead}
+use Rattle.cdb_source.specs.declared.source.Source.{Source}
+use Rattle.cdb_source.specs.Reached.{Reaches, Reached}
+
+pub reached_at : (t : Tile) (ss : List Source) (i : ℕ) (s : Source) → i < length ss → s ≡ get_or ss i s → Reaches s.head t → Reached (map (λ (source : Source). source.head) ss) t
+reached_at t ss i s lt is r = record {
+  number = i;
+  head = s.head;
+  there = slice_get-map (λ (source : Source). source.head) ss i ∙ ap (option_map (λ (source : Source). source.head)) (slice_get-get_or ss i s lt ∙ ap (λ (x : Source). Some x) (sym is));
+  reaches = r;
+}
+
+none_there : (t : Tile) (ss : List Source) (n : ℕ) (h : SourceHead) → All (λ (s : Source). Reaches s.head t → ⊥) ss → slice_get (map (λ (source : Source). source.head) ss) n ≡ Some h → Reaches h t → ⊥
+none_there t [] zero h all e r = cc
+none_there t [] (suc n) h all e r = cc
+none_there t (s ∷ ss) zero h all e r = let same : s.head ≡ h = cc in All-head (λ (s : Source). Reaches s.head t → ⊥) s ss all (subst (λ x. Reaches x t) (sym same) r)
+none_there t (s ∷ ss) (suc n) h all e r = none_there t ss n h (All-tail (λ (s : Source). Reaches s.head t → ⊥) s ss all) e r
+
+pub none_reached : (t : Tile) (ss : List Source) → All (λ (s : Source). Reaches s.head t → ⊥) ss → Reached (map (λ (source : Source). source.head) ss) t → ⊥
+none_reached t ss all r = none_there t ss r.number r.head all r.there r.reaches

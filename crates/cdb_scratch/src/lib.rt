@@ -1,0 +1,12 @@
+//! Builds one tile from sources alone, place by place after the definitions of its values.
+#![tactic(auto)]
+
+mod cell;
+mod elevation;
+mod frame;
+mod reach;
+#[cfg(test)]
+mod tests;
+mod units;
+
+pub use frame::build;

@@ -1,0 +1,125 @@
+ghost use Rattle.std.specs.Prelude.{◌≡◌, length, IfOk};
+
+use crate::build;
+use cdb_grid::{Arc, Family, Level, side, tile_at};
+use cdb_source::{Kind, Source, SourceHead, SourceMaker};
+use std::alloc::Global;
+use std::test::Fail;
+
+/// A source's level, south-west corner and steps, in fractions of a degree.
+#[derive(Drop)]
+struct Form {
+    level: i32,
+    lat: (i64, i64),
+    lon: (i64, i64),
+    dlat: (i64, i64),
+    dlon: (i64, i64),
+}
+
+/// A half degree in both directions at 46 degrees north and 7 east.
+const HALF: Form = Form {
+    level: -9,
+    lat: (46, 1),
+    lon: (7, 1),
+    dlat: (1, 2),
+    dlon: (1, 2),
+};
+
+const WHOLE: Form = Form {
+    level: -10,
+    lat: (46, 1),
+    lon: (7, 1),
+    dlat: (1, 1),
+    dlon: (1, 1),
+};
+
+/// The finest level, in the north-east corner of the geocell.
+const CORNER: Form = Form {
+    level: 23,
+    lat: (403726925823, 8589934592),
+    lon: (68719476735, 8589934592),
+    dlat: (1, 1),
+    dlon: (1, 1),
+};
+
+fn head(form: &Form, rows: u32, cols: u32) -> Result<SourceHead, Fail>
+    ensures rows { IfOk result (λ head. head.rows ≡ rows) }
+    ensures cols { IfOk result (λ head. head.cols ≡ cols) }
+{
+    let level = Level::new(form.level).ok_or("level")?;
+    let lat = Arc::of_fraction(form.lat.0, form.lat.1).ok_or("lat")?;
+    let lon = Arc::of_fraction(form.lon.0, form.lon.1).ok_or("lon")?;
+    let dlat = Arc::of_fraction(form.dlat.0, form.dlat.1).ok_or("dlat")?;
+    let dlon = Arc::of_fraction(form.dlon.0, form.dlon.1).ok_or("dlon")?;
+    let head = SourceHead::new(Kind::Elevation, level, lat, lon, dlat, dlon, rows, cols);
+    Ok(head.ok_or("head")?)
+}
+
+/// A source of one post.
+fn one_post(alloc: Global, form: &Form, post: i32) -> Result<Source, Fail> {
+    let mut maker = SourceMaker::new(alloc, head(form, 1, 1)?)?;
+    maker.push_row(&[post], -32768)?;
+    Ok(maker.finish())
+}
+
+/// A source of two rows of two posts, the north row first.
+fn four_posts(
+    alloc: Global,
+    form: &Form,
+    north: [i32; 2],
+    south: [i32; 2],
+) -> Result<Source, Fail> {
+    let mut maker = SourceMaker::new(alloc, head(form, 2, 2)?)?;
+    maker.push_row(&north, -32768)?;
+    maker.push_row(&south, -32768)?;
+    Ok(maker.finish())
+}
+
+/// Whether the tile of a family at the geocell's corner is reached, and its first numbers, the south row first.
+fn built(sources: &[Source], family: Family, level: i32) -> Option<(bool, [i16; 4])> {
+    let level = Level::new(level)?;
+    let tile = tile_at(
+        family,
+        level,
+        Arc::of_fraction(46, 1)?,
+        Arc::of_fraction(7, 1)?,
+    )?;
+    let side = side(tile.level) as usize;
+    if side > 2 || tile.family == Family::Mat {
+        return None;
+    }
+    let mut frame = [0; 4];
+    let reached = build(sources, &tile, &mut frame[..side * side]);
+    Some((reached, frame))
+}
+
+#[test]
+fn one_source(rt: HostRuntime) -> Result<(), Fail> {
+    let sources = [four_posts(rt.alloc(), &HALF, [30, 40], [10, 20])?];
+    assert!(rt; built(&sources, Family::Elev, -9) == Some((true, [10, 20, 30, 40])));
+    assert!(rt; built(&sources, Family::Elev, -10) == Some((true, [10, 0, 0, 0])));
+    assert!(rt; built(&sources, Family::Low, -10) == Some((true, [10, 0, 0, 0])));
+    assert!(rt; built(&sources, Family::High, -10) == Some((true, [40, 0, 0, 0])));
+    assert!(rt; built(&sources, Family::High, -9) == Some((true, [10, 20, 30, 40])));
+    Ok(())
+}
+
+#[test]
+fn a_newer_coarser_source(rt: HostRuntime) -> Result<(), Fail> {
+    let finer = four_posts(rt.alloc(), &HALF, [30, 40], [10, 20])?;
+    let coarser = one_post(rt.alloc(), &WHOLE, 99)?;
+    let sources = [finer, coarser];
+    assert!(rt; built(&sources, Family::Elev, -10) == Some((true, [10, 0, 0, 0])));
+    assert!(rt; built(&sources, Family::High, -10) == Some((true, [40, 0, 0, 0])));
+    Ok(())
+}
+
+#[test]
+fn a_source_of_the_finest_level(rt: HostRuntime) -> Result<(), Fail> {
+    let sources = [one_post(rt.alloc(), &CORNER, 7)?];
+    assert!(rt; built(&sources, Family::Elev, -10) == Some((true, [-32768, 0, 0, 0])));
+    assert!(rt; built(&sources, Family::Low, -10) == Some((true, [7, 0, 0, 0])));
+    assert!(rt; built(&sources, Family::High, -10) == Some((true, [7, 0, 0, 0])));
+    assert!(rt; built(&[], Family::Low, -10) == Some((false, [-32768, 0, 0, 0])));
+    Ok(())
+}
