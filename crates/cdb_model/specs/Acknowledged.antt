@@ -1,10 +1,11 @@
 -- The publications that a run began, and those that what was written acknowledges.
 use Rattle.std.specs.Prelude.{◌≡◌, ℕ, ◌+◌, List, [], ◌∷◌, ◌++◌, length, take, drop, nat_eq, if◌then◌else◌, option_to_list}
 use Rattle.std.specs.List.{starts_with}
-use Rattle.cdb_model.specs.declared.source.Source.{Source}
+use Rattle.cdb_source.specs.declared.source.Source.{Source}
 use Rattle.cdb_model.specs.Text.{Text}
 use Rattle.cdb_model.specs.Commands.{Command}
-use Rattle.cdb_model.specs.Machine.{State, Answer, start, source, begun, published, session, missing, tile, not_built, busy, nothing, memory}
+use Rattle.cdb_model.specs.Maps.{Content}
+use Rattle.cdb_model.specs.Machine.{State, Answer, start, published}
 use Rattle.cdb_model.specs.Run.{Run, text_of}
 
 -- the publications begun by a run that came to a state: the complete ones, and the one that is going
@@ -31,8 +32,12 @@ whole_answers (answer ∷ answers) written =
 abbrev pub acknowledged : State → List Answer → Text → List (List Source)
 acknowledged s answers written = take (completed (whole_answers answers written)) (begun_by s)
 
+-- a shelf of which nothing is known; a run over any other shelf is one over this one
+abbrev pub HasAnything : Text → Content → Type 0
+HasAnything path content = Unit {0}
+
 -- whatever was written of a run, what it acknowledges is the first of the complete publications
 abbrev pub AcknowledgedStand : Type 0
 AcknowledgedStand =
-    (commands : List Command) (answers : List Answer) (state : State) (written : Text) → Run start commands answers state
+    (commands : List Command) (answers : List Answer) (state : State) (written : Text) → Run HasAnything start commands answers state
     → (rest : List (List Source)) × (state.list ≡ acknowledged state answers written ++ rest)

@@ -4,8 +4,8 @@ use Rattle.std.specs.Char.{is_ascii_alphanumeric, is_ascii_graphic}
 use Rattle.std.specs.List.{list_all, slice_split, position_or_len}
 use Rattle.std.specs.Str.{bytes_eq}
 use Rattle.cdb_grid.specs.declared.fraction.Fraction.{Fraction}
-use Rattle.cdb_model.specs.declared.kind.Kind.{Kind}
-use Rattle.cdb_model.specs.declared.kind.Kind.TheVariants.{Elevation, Material}
+use Rattle.cdb_source.specs.declared.kind.Kind.{Kind}
+use Rattle.cdb_source.specs.declared.kind.Kind.TheVariants.{Elevation, Material}
 use Rattle.cdb_model.specs.declared.line.InlineWords.{InlineWords}
 use Rattle.cdb_model.specs.declared.line.LoadWords.{LoadWords}
 use Rattle.cdb_model.specs.declared.line.Line.{Line}

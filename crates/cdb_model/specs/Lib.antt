@@ -3,11 +3,14 @@ pub mod Text
 pub mod Maps
 pub mod Names
 pub mod TileFile
+pub mod ByteLaws
 pub mod Words
-pub mod BuiltLines
 pub mod Grammar
 pub mod Writing
+pub mod Spelled
 pub mod Commands
 pub mod Machine
 pub mod Run
 pub mod Acknowledged
+pub mod Records
+pub mod Stands

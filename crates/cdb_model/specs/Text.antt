@@ -1,5 +1,5 @@
 -- Texts: lists of bytes.
-use Rattle.std.specs.Prelude.{ℕ, List, [], ◌∷◌, ◌++◌}
+use Rattle.std.specs.Prelude.{ℕ, zero, suc, List, [], ◌∷◌, ◌++◌}
 
 abbrev pub Text : Type 0
 Text = List ℕ
@@ -7,3 +7,8 @@ Text = List ℕ
 -- a line with the line feed that ends it
 abbrev pub ended : Text → Text
 ended line = line ++ 10 ∷ []
+
+-- so many pieces, numbered from 0, one after another: the last one first
+abbrev pub last_first : {A : Type 0} → ℕ → (ℕ → List A) → List A
+last_first zero piece = []
+last_first (suc n) piece = piece n ++ last_first n piece

@@ -1,7 +1,15 @@
 -- The bytes of a tile's file (TIFF 6.0, sections 2 and 8): a head of 186 bytes and the raster.
-use Rattle.std.specs.Prelude.{ℕ, ◌*◌, ◌/◌, ℤ, List, [], ◌∷◌, ◌++◌, codes, nat_eq, if◌then◌else◌}
-use Rattle.std.specs.List.{flat_map}
-use Rattle.std.specs.Int.{w16, w32, to_le_bytes, cast_unsigned}
+use Rattle.std.specs.Prelude.{ℕ, ◌*◌, ◌/◌, ℤ, List, [], ◌∷◌, ◌++◌, map, codes, nat_eq, if◌then◌else◌}
+use Rattle.std.specs.List.{flat_map, range_with_len}
+use Rattle.std.specs.Int.{w8, w16, w32, to_le_bytes, cast_unsigned}
+use Rattle.cdb_grid.specs.Tiles.{tile_side}
+use Rattle.cdb_grid.specs.declared.family.Family.{Family}
+use Rattle.cdb_grid.specs.declared.family.Family.TheVariants.{Elev, Low, High, Mat}
+use Rattle.cdb_grid.specs.declared.tile.Tile.{Tile}
+use Rattle.cdb_source.specs.Posts.{coded}
+use Rattle.cdb_source.specs.Reached.{kind_of, tile_value}
+use Rattle.cdb_source.specs.declared.source.Source.{Source}
+use Rattle.cdb_model.specs.Text.{last_first}
 
 -- numbers of 16 and of 32 bits, the lowest byte first
 abbrev pub short_bytes : ℕ → List ℕ
@@ -63,3 +71,35 @@ head_bytes side bits =
 -- a row of the raster: each post in two bytes
 unfoldable pub row_bytes : List ℤ → List ℕ
 row_bytes posts = flat_map (λ post. short_bytes (cast_unsigned w16 post)) posts
+
+-- a row of the raster of a tile of materials: each post in one byte
+unfoldable pub small_row_bytes : List ℤ → List ℕ
+small_row_bytes posts = map (cast_unsigned w8) posts
+
+-- ---- the file of a tile
+
+-- the bits of an element
+abbrev pub bits_of : Family → ℕ
+bits_of Elev = 16
+bits_of Low = 16
+bits_of High = 16
+bits_of Mat = 8
+
+-- a row of the raster of a tile of a family
+abbrev pub family_row : Family → List ℤ → List ℕ
+family_row Elev posts = row_bytes posts
+family_row Low posts = row_bytes posts
+family_row High posts = row_bytes posts
+family_row Mat posts = small_row_bytes posts
+
+-- the numbers of a row of a tile, counted from the south, from west to east
+abbrev pub row_numbers : List Source → Tile → ℕ → List ℤ
+row_numbers ss t row = map (λ col. coded (kind_of t.family) (tile_value ss t row col)) (range_with_len 0 (tile_side t))
+
+-- the raster, the north row first
+abbrev pub raster_bytes : List Source → Tile → List ℕ
+raster_bytes ss t = last_first (tile_side t) (λ row. family_row t.family (row_numbers ss t row))
+
+-- the file of a tile that takes its values from these sources, oldest first
+unfoldable pub tile_bytes : List Source → Tile → List ℕ
+tile_bytes ss t = head_bytes (tile_side t) (bits_of t.family) ++ raster_bytes ss t

@@ -26,10 +26,6 @@ first_word (w ∷ ws) = Some (w, ws)
 abbrev pub field : {X : Type 0} → (Text → Option X) → List Text → Option (X × List Text)
 field read ws = option_and_then (λ p. option_map (λ x. (x, p.1)) (read p.0)) (first_word ws)
 
--- the words after this one
-abbrev pub after_word : Text → List Text → Option (List Text)
-after_word text ws = option_and_then (λ p. if bytes_eq p.0 text then Some p.1 else None) (first_word ws)
-
 -- what a reading of one word gives of the only word that is left
 abbrev pub only_word : {X : Type 0} → (Text → Option X) → List Text → Option X
 only_word read ws = option_and_then (λ p. if is_some (first_word p.1) then None else read p.0) (first_word ws)
@@ -42,7 +38,3 @@ digits most w = if nat_lt 0 (length w) && nat_le (length w) most && list_all is_
 unfoldable pub signed : ℕ → Text → Option ℤ
 signed most [] = None
 signed most (c ∷ w) = if c == 45 then option_map (λ n. neg_ℤ (pos n)) (digits most w) else option_map (λ n. pos n) (digits most (c ∷ w))
-
--- a signed number from `low` to `high`
-unfoldable pub signed_between : ℕ → ℤ → ℤ → Text → Option ℤ
-signed_between most low high w = option_and_then (λ z. if int_le low z && int_le z high then Some z else None) (signed most w)

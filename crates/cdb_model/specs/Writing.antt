@@ -4,8 +4,8 @@ use Rattle.std.specs.Fmt.{decimal, signed_decimal}
 use Rattle.std.specs.List.{join_with_byte}
 use Rattle.std.specs.Ordering.{int_eq}
 use Rattle.cdb_grid.specs.declared.fraction.Fraction.{Fraction}
-use Rattle.cdb_model.specs.declared.kind.Kind.{Kind}
-use Rattle.cdb_model.specs.declared.kind.Kind.TheVariants.{Elevation, Material}
+use Rattle.cdb_source.specs.declared.kind.Kind.{Kind}
+use Rattle.cdb_source.specs.declared.kind.Kind.TheVariants.{Elevation, Material}
 use Rattle.cdb_model.specs.Text.{Text}
 use Rattle.cdb_model.specs.Grammar.{Head, InlineSource, FileSource, Sentence, inline, source, publish, step, step_all, open_session, tile, close, versions, quit, blank, path, file_name, line_of}
 

@@ -1,6 +1,6 @@
-use crate::kind::Kind;
 use arrayvec::{ArrayString, ArrayVec};
 use cdb_grid::{Fraction, Tile};
+use cdb_source::Kind;
 
 /// A line of the script.
 #[derive(Debug, Drop)]
