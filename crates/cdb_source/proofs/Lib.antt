@@ -1,3 +1,6 @@
+pub mod TextLaws
+pub mod HeadLaws
+pub mod DecodingLaws
 pub mod RowLaws
 pub mod OfferLaws
 pub mod BestLaws
@@ -7,3 +10,5 @@ pub mod ModeLaws
 pub mod MaterialLaws
 pub mod SampleLaws
 pub mod ReachLaws
+pub mod OnceLaws
+pub mod LoadLaws

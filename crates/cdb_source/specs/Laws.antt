@@ -1,16 +1,17 @@
 -- The laws of one level, each for every list of sources, oldest first. The level next finer than the one of
 -- height suc h has height h; height 0 is above the finest level.
-use Rattle.std.specs.Prelude.{◌≡◌, ℕ, suc, ◌*◌, ◌<◌, ◌≤◌, ℤ, pos, ◌+ℤ◌, ◌*ℤ◌, ◌≤ℤ◌, ◌<ℤ◌, List, ◌++◌, map, All, Option, Some, None}
+use Rattle.std.specs.Prelude.{◌≡◌, ℕ, suc, ◌*◌, ◌<◌, ◌≤◌, ℤ, pos, ◌+ℤ◌, ◌*ℤ◌, ◌≤ℤ◌, ◌<ℤ◌, List, ◌++◌, length, map, All, Option, Some, None}
 use Rattle.std.specs.Option.{option_or}
 use Rattle.cdb_grid.specs.Grid.{Place, IsCorner, beside, centre}
 use Rattle.cdb_grid.specs.Tiles.{tile_side}
 use Rattle.cdb_grid.specs.declared.tile.Tile.{Tile}
 use Rattle.cdb_source.specs.declared.kind.Kind.TheVariants.{Elevation, Material}
+use Rattle.cdb_source.specs.declared.head.SourceHead.{SourceHead}
 use Rattle.cdb_source.specs.declared.source.Source.{Source}
 use Rattle.cdb_source.specs.Sample.{IsInBox, rounded, sample_at}
 use Rattle.cdb_source.specs.Values.{sampled, newest_own, lesser, greater, mode, mode_of_four, elevation_of, low_of, high_of, material_of}
 use Rattle.cdb_source.specs.Meaning.{IsElevation, IsLow, IsHigh, IsMode}
-use Rattle.cdb_source.specs.Reached.{Reaches, tile_value, SameReaching}
+use Rattle.cdb_source.specs.Reached.{Reaches, IsLoad, IsTouched, tile_value, SameReaching}
 
 -- a source has values in its box alone; a rounded quotient v of n by d has 2dv at most 2n + d, and less than 2d below it
 pub record Samples : Type 0 where
@@ -82,3 +83,7 @@ pub record ReachingAlone : Type 0 where
   pub same : (t : Tile) (ss ts : List Source) → SameReaching t ss ts → (row col : ℕ) → row < tile_side t → col < tile_side t → tile_value ss t row col ≡ tile_value ts t row col
   pub untouched : (t : Tile) (ss ts : List Source) → All (λ (s : Source). Reaches s.head t → ⊥) ts → (row col : ℕ) → row < tile_side t → col < tile_side t → tile_value (ss ++ ts) t row col ≡ tile_value ss t row col
   pub unreached : (t : Tile) (ss : List Source) → All (λ (s : Source). Reaches s.head t → ⊥) ss → (row col : ℕ) → row < tile_side t → col < tile_side t → tile_value ss t row col ≡ None
+
+-- the tiles that sources touch are at most as many as their load says
+abbrev pub TouchedWithinLoad : Type 0
+TouchedWithinLoad = (heads : List SourceHead) (load : ℕ) (tiles : List Tile) → IsLoad heads load → IsTouched heads tiles → length tiles ≤ load

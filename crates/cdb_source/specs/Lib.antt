@@ -1,5 +1,8 @@
 pub mod Head
 pub mod Posts
+pub mod Texts
+pub mod HeadFields
+pub mod Decoding
 pub mod Made
 pub mod Maker
 pub mod Sample

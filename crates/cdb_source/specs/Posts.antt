@@ -1,5 +1,5 @@
 -- The numbers of a source: which ones a kind has, and which one stands for no value.
-use Rattle.std.specs.Prelude.{◌≡◌, ◌⊎◌, ℤ, pos, negsuc, ◌≤ℤ◌, Bool, true, false, if◌then◌else◌}
+use Rattle.std.specs.Prelude.{◌≡◌, ◌⊎◌, ℤ, pos, negsuc, ◌≤ℤ◌, Bool, true, false, Option, Some, None, if◌then◌else◌}
 use Rattle.std.specs.Ordering.{int_eq}
 use Rattle.cdb_source.specs.declared.kind.Kind.{Kind}
 use Rattle.cdb_source.specs.declared.kind.Kind.TheVariants.{Elevation, Material}
@@ -33,3 +33,8 @@ IsAllowed kind novalue number = (number ≡ novalue) ⊎ IsPost kind number
 -- the post that a number of a row becomes
 abbrev pub post_of : Kind → ℤ → ℤ → ℤ
 post_of kind novalue number = if int_eq number novalue then none_of kind else number
+
+-- the number by which a raster of a kind has a value, or none
+abbrev pub coded : Kind → Option ℤ → ℤ
+coded kind None = none_of kind
+coded kind (Some value) = value

@@ -1,7 +1,7 @@
 //! The laws of one level: why the tiles of a level can be made from the tiles of the next finer one,
 //! from the new sources of this level, and from what was there before. Each function does nothing;
 //! its contract is the law, for every list of sources.
-ghost use Rattle.cdb_source.specs.Laws.{BestSource, FinerPlaces, FromFiner, EarlierStand, ThreePasses, LeastOfCell, GreatestOfCell, MostFrequent, MaterialLater, ReachingAlone, Samples};
+ghost use Rattle.cdb_source.specs.Laws.{BestSource, FinerPlaces, FromFiner, EarlierStand, ThreePasses, LeastOfCell, GreatestOfCell, MostFrequent, MaterialLater, ReachingAlone, Samples, TouchedWithinLoad};
 
 /// The elevation at a place is the sample of the source that is greatest by level, then by number,
 /// among the elevation sources of a level at least as fine that have a value there.
@@ -63,4 +63,9 @@ pub fn reaching_sources_alone()
 /// upward.
 pub fn samples()
     ensures { Samples }
+{}
+
+/// The tiles that sources touch are at most as many as their load says.
+pub fn touched_within_load()
+    ensures { TouchedWithinLoad }
 {}

@@ -2,6 +2,9 @@
 //! a store take their values.
 #![tactic(auto)]
 
+mod decode_error;
+mod decoding;
+mod encoding;
 mod head;
 mod kind;
 pub mod laws;
@@ -11,11 +14,16 @@ mod row;
 mod source;
 mod span;
 
+pub use decode_error::DecodeError;
+pub use decoding::{decode, decode_head};
+pub use encoding::{FIRST_BYTES, encode_head, encode_row};
 pub use head::SourceHead;
 pub use kind::Kind;
 pub use maker::{Range, SourceMaker};
 pub use posts::Posts;
 pub use source::Source;
 
+#[cfg(test)]
+mod file_tests;
 #[cfg(test)]
 mod tests;

@@ -14,7 +14,7 @@ pub(crate) fn no_value(kind: Kind) -> i16
     }
 }
 
-fn is_post(kind: Kind, number: i32) -> bool
+pub(crate) fn is_post(kind: Kind, number: i32) -> bool
     ensures { IsTrue result ↔ IsPost kind number }
 {
     match kind {
