@@ -8,73 +8,8 @@ use Rattle.std.proofs.lemmas.List.Sorted.{IsPermutation-remove, Contains-permuta
 use Rattle.cdb_grid.specs.declared.tile.Tile.{Tile}
 use Rattle.cdb_source.specs.declared.head.SourceHead.{SourceHead}
 use Rattle.cdb_source.specs.Reached.{Reaches, IsReachCount, IsLoad}
+use Rattle.cdb_source.proofs.OnceLaws.{not_in_none, in_one, once_none, once_cons, once_append, length_le}
 use Rattle.cdb_touch.specs.Count.{HasCount}
-
--- no tile stands twice
-abbrev Once : List Tile → Type 0
-Once xs = (i j : ℕ) → i < length xs → slice_get xs i ≡ slice_get xs j → i ≡ j
-
-contains_at : (xs : List Tile) (k : ℕ) (x : Tile) → slice_get xs k ≡ Some x → Contains xs x
-contains_at xs k x e = subst (λ y. Contains xs y) (get_or_from_slice_get xs k x x e) (Contains-get_or xs k x (slice_get_within xs k x e))
-
-at_contains : (xs : List Tile) (x : Tile) → Contains xs x → (k : ℕ) × (slice_get xs k ≡ Some x)
-at_contains xs x c = (c.0, slice_get-get_or xs c.0 x c.1 ∙ ap Some c.2)
-
-not_in_none : (x : Tile) → Contains [] x → ⊥
-not_in_none x c = let lt : c.0 < 0 = c.1 in omega arith
-
-in_one : (x y : Tile) → Contains (x ∷ []) y → x ≡ y
-in_one x y c = at c.0 c.1 c.2
-  where
-    at : (k : ℕ) → k < length (x ∷ []) → get_or (x ∷ []) k y ≡ y → x ≡ y
-    at zero lt e = e
-    at (suc k) lt e = let l : suc k < 1 = lt in absurd (omega arith)
-
-once_none : Once []
-once_none i j lt e = let l : i < 0 = lt in absurd (omega arith)
-
-once_cons : (x : Tile) (xs : List Tile) → (Contains xs x → ⊥) → Once xs → Once (x ∷ xs)
-once_cons x xs out o zero zero lt e = refl
-once_cons x xs out o zero (suc j) lt e = absurd (out (contains_at xs j x (sym e)))
-once_cons x xs out o (suc i) zero lt e = absurd (out (contains_at xs i x e))
-once_cons x xs out o (suc i) (suc j) lt e = let l : suc i < suc (length xs) = lt in ap suc (o i j (omega arith) e)
-
-once_tail : (x : Tile) (xs : List Tile) → Once (x ∷ xs) → Once xs
-once_tail x xs o i j lt e =
-    let s : suc i ≡ suc j = o (suc i) (suc j) (let l : suc i < suc (length xs) = omega arith in l) e in omega arith
-
-once_head : (x : Tile) (xs : List Tile) → Once (x ∷ xs) → Contains xs x → ⊥
-once_head x xs o c =
-    let a = at_contains xs x c in
-    let s : 0 ≡ suc a.0 = o 0 (suc a.0) (let l : 0 < suc (length xs) = omega arith in l) (sym a.1) in omega arith
-
-once_append : (xs ys : List Tile) → Once xs → Once ys → ((x : Tile) → Contains xs x → Contains ys x → ⊥) → Once (xs ++ ys)
-once_append [] ys o p apart = p
-once_append (x ∷ xs) ys o p apart =
-    once_cons x (xs ++ ys)
-    (λ c. out (Contains-append_cases xs ys x c))
-    (once_append xs ys (once_tail x xs o) p (λ y a b. apart y (Contains-append_right (x ∷ []) xs y a) b))
-  where
-    out : Contains xs x ⊎ Contains ys x → ⊥
-    out (inl c) = once_head x xs o c
-    out (inr c) = apart x (Contains-append_left (x ∷ []) xs x (0, lit< tt, refl)) c
-
--- the tiles of one list stand in another that is at least as long
-length_le : (xs ys : List Tile) → Once xs → ((t : Tile) → Contains xs t → Contains ys t) → length xs ≤ length ys
-length_le [] ys o into = omega arith
-length_le (x ∷ xs) ys o into =
-    let c : Contains ys x = into x (Contains-append_left (x ∷ []) xs x (0, lit< tt, refl)) in
-    let p : IsPermutation ys (x ∷ remove ys c.0) = IsPermutation-remove ys c.0 x c.1 (sym c.2) in
-    let n : length (x ∷ remove ys c.0) ≡ length ys = length_permutation ys (x ∷ remove ys c.0) p in
-    let m : suc (length (remove ys c.0)) ≡ length ys = n in
-    let rest : length xs ≤ length (remove ys c.0) = length_le xs (remove ys c.0) (once_tail x xs o)
-    (λ t h. left (remove ys c.0) t h (Contains-append_cases (x ∷ []) (remove ys c.0) t
-    (Contains-permutation ys (x ∷ remove ys c.0) t p (into t (Contains-append_right (x ∷ []) xs t h))))) in
-    let goal : suc (length xs) ≤ length ys = omega arith in goal
-  where
-    left : (zs : List Tile) (t : Tile) → Contains xs t → Contains (x ∷ []) t ⊎ Contains zs t → Contains zs t
-    left zs t h (inl i) = absurd (once_head x xs o (subst (λ y. Contains xs y) (sym (in_one x t i)) h))
-    left zs t h (inr i) = i
 
 -- a set has one count
 pub HasCount-only : {M : Tile → Type 0} (m n : ℕ) → HasCount M m → HasCount M n → m ≡ n

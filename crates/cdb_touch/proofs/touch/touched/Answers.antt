@@ -4,7 +4,7 @@ use Rattle.cdb_grid.specs.declared.tile.Tile.{Tile}
 use Rattle.cdb_source.specs.Reached.{Reached}
 use Rattle.cdb_touch.specs.Touched.{Adds}
 use Rattle.cdb_touch.proofs.AddLaws.{ok_fact, grown}
-use Rattle.cdb_touch.proofs.OrderLaws.{ascending_once}
+use Rattle.cdb_source.proofs.OnceLaws.{ascending_once}
 use Rattle.cdb_touch.proofs.touch.touched.Goals as goal
 
 pub returns-clause-listed : goal.returns-clause-listed
