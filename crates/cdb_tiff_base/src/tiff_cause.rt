@@ -36,20 +36,23 @@ pub enum TiffCause {
     Short,
 }
 
-impl fmt::Display for TiffCause {
-    ghost use Rattle.cdb_tiff_base.specs.Words.{word_of};
+impl TiffCause {
+    ghost use Rattle.std.specs.Prelude.{◌≡◌, ◌≤◌, length};
+    ghost use Rattle.cdb_tiff_base.specs.Words.{name_of};
 
-    ghost output = { λ c. Some (word_of c) };
-
-    fn fmt<W: fmt::Write>(&self, f: &mut fmt::Formatter<W>) -> fmt::Result {
-        let word = match self {
+    /// The name of the cause, without the tag that `absent` speaks of.
+    pub fn name(&self) -> &'static str
+        ensures name { result.now ≡ name_of self.now }
+        ensures short { length result.now ≤ 10 }
+    {
+        match self {
             TiffCause::NotTiff => "nottiff",
             TiffCause::BigTiff => "bigtiff",
             TiffCause::Directory => "directory",
             TiffCause::Order => "order",
             TiffCause::Kind => "kind",
             TiffCause::Tiled => "tiled",
-            TiffCause::Absent(tag) => return write!(f, "absent {tag}"),
+            TiffCause::Absent(_) => "absent",
             TiffCause::Compressed => "compressed",
             TiffCause::Samples => "samples",
             TiffCause::Float => "float",
@@ -57,7 +60,20 @@ impl fmt::Display for TiffCause {
             TiffCause::Size => "size",
             TiffCause::Strips => "strips",
             TiffCause::Short => "short",
-        };
-        f.write_str(word)
+        }
+    }
+}
+
+impl fmt::Display for TiffCause {
+    ghost use Rattle.cdb_tiff_base.specs.Words.{word_of};
+
+    ghost output = { λ c. Some (word_of c) };
+
+    fn fmt<W: fmt::Write>(&self, f: &mut fmt::Formatter<W>) -> fmt::Result {
+        f.write_str(self.name())?;
+        match self {
+            TiffCause::Absent(tag) => write!(f, " {tag}"),
+            _ => Ok(()),
+        }
     }
 }
