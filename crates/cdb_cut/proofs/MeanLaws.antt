@@ -64,7 +64,7 @@ unfolding rounded
 mean_fits n d k = let a = k.least in let b = k.near in quotient_fits (pos 2 *ℤ n +ℤ pos d) (2 * d) (omega arith) (omega (arith, ints))
 
 -- the program's quotient, in 128 bits
-pub mean_is : (n : ℤ) (d : ℕ) → IsNear n d
+mean_is : (n : ℤ) (d : ℕ) → IsNear n d
     → int_div_euclid (to_z w128 (of_z w128 (to_z w128 (of_z w128 (pos 2 *ℤ to_z w128 (of_z w128 n))) +ℤ to_z w128 d))) (to_z w128 (of_z w128 (pos 2 *ℤ to_z w128 d))) ≡ rounded d n
 unfolding rounded
 mean_is n d k =
@@ -74,6 +74,10 @@ mean_is n d k =
     let fs : SFits w128 (pos 2 *ℤ n +ℤ pos d) = omega (arith, ints) in
     let fd : SFits w128 (pos 2 *ℤ pos d) = omega (arith, ints) in
     rw (to_z-of_z w128 n fn, to_z_pos w128 d (omega arith), to_z-of_z w128 (pos 2 *ℤ n) ft, to_z-of_z w128 (pos 2 *ℤ n +ℤ pos d) fs, to_z-of_z w128 (pos 2 *ℤ pos d) fd) refl
+
+pub quotient_is : (n q : ℤ) (d : ℕ) → q ≡ int_div_euclid (to_z w128 (of_z w128 (to_z w128 (of_z w128 (pos 2 *ℤ to_z w128 (of_z w128 n))) +ℤ to_z w128 d))) (to_z w128 (of_z w128 (pos 2 *ℤ to_z w128 d)))
+    → 1 ≤ d → d ≤ 2 ^ 98 → unsigned_abs n ≤ 32767 * d → q ≡ rounded d n
+quotient_is n q d e a m b = e ∙ mean_is n d (record { least = a; most = m; near = b })
 
 -- and back in 16 bits
 pub mean_back : (q : ℤ) (n : ℤ) (d : ℕ) → IsNear n d → q ≡ rounded d n → to_z w16 (of_z w16 (to_z w128 (of_z w128 q))) ≡ rounded d n

@@ -57,13 +57,24 @@ fn product(a: u64, b: u64) -> u128
 }
 
 /// The quotient rounded to the nearest whole number, a half upward.
+#[tactic(auto, using(crate::proofs::MeanLaws::quotient_is))]
+fn quotient(total: i128, weight: u128) -> i128
+    requires weight { 1 ≤ weight }
+    requires most { weight ≤ 2 ^ 98 }
+    requires near { unsigned_abs total ≤ 32767 * weight }
+    ensures { result ≡ rounded weight total }
+{
+    (2 * total + weight as i128).div_euclid(2 * weight as i128)
+}
+
+/// The same in 16 bits, which it fits.
 fn mean(total: i128, weight: u128) -> i16
     requires weight { 1 ≤ weight }
     requires most { weight ≤ 2 ^ 98 }
     requires near { unsigned_abs total ≤ 32767 * weight }
     ensures { result ≡ rounded weight total }
 {
-    (2 * total + weight as i128).div_euclid(2 * weight as i128) as i16
+    quotient(total, weight) as i16
 }
 
 /// The four posts around a point, whose distances to the first row and the first column are `up`
