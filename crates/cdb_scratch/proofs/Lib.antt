@@ -1,5 +1,7 @@
 pub mod UnitLaws
 pub mod ValueLaws
+pub mod FourLaws
+pub mod PlaceLaws
 pub mod CellLaws
 pub mod FrameLaws
 pub mod ReachedLaws

@@ -1,14 +1,15 @@
--- Laws of the elevation at a place, one source after the other.
+-- Laws of the elevation and of the material at a place, one source after the other.
 use Rattle.std.proofs.Common.{◌≡◌, ℕ, ◌+◌, ◌<◌, ◌≤◌, ℤ, true, false, cond, nat_le, inl, inr, List, [], ◌∷◌, ◌++◌, length, take, get_or, map, Option, Some, None, refl, sym, ap, ◌∙◌, arith}
-use Rattle.std.specs.Option.{option_map}
+use Rattle.std.specs.Option.{option_map, option_or}
 use Rattle.std.proofs.lemmas.Bool.{cases_lt}
 use Rattle.std.proofs.lemmas.Bool.Decides.{nat_tests}
 use Rattle.std.proofs.lemmas.List.{take_more, take_all, map-append}
 use Rattle.cdb_grid.specs.Grid.{Place}
 use Rattle.cdb_source.specs.declared.source.Source.{Source}
-use Rattle.cdb_source.specs.Offers.{over, best}
-use Rattle.cdb_source.specs.Values.{sampled, offer, elevation_of}
-use Rattle.cdb_source.proofs.OfferLaws.{over_none}
+use Rattle.cdb_source.specs.declared.kind.Kind.TheVariants.{Material}
+use Rattle.cdb_source.specs.Offers.{over, best, newest}
+use Rattle.cdb_source.specs.Values.{sampled, offer, own, newest_own, elevation_of}
+use Rattle.cdb_source.proofs.OfferLaws.{over_none, newest-append}
 
 le_true : (m n : ℕ) → m ≤ n → nat_le m n ≡ true
 le_true m n h = grind (arith, nat_tests)
@@ -56,3 +57,17 @@ best_more h p ss i s lt is =
 pub elevation_of_best : (h : ℕ) (p : Place) (ss : List Source) (i : ℕ) (o : Option (ℕ × ℤ)) → length ss ≤ i → o ≡ best (map (offer h p) (map sampled (take i ss)))
     → option_map {T = ℕ × ℤ} (λ x. x.1) o ≡ elevation_of ss h p
 elevation_of_best h p ss i o le e = ap (option_map {T = ℕ × ℤ} (λ x. x.1)) (e ∙ ap (λ xs. best (map (offer h p) (map sampled xs))) (take_all i ss le))
+
+-- the newest material of one source more
+pub newest_more : (h : ℕ) (p : Place) (ss : List Source) (i : ℕ) (s : Source) → i < length ss → s ≡ get_or ss i s
+    → newest_own Material (map sampled (take (i + 1) ss)) h p ≡ option_or (own Material h p (sampled s)) (newest_own Material (map sampled (take i ss)) h p)
+newest_more h p ss i s lt is =
+    ap (λ xs. newest (map (own Material h p) (map sampled xs))) (take_more ss i s lt ∙ ap (λ x. take i ss ++ x ∷ []) (sym is))
+    ∙ ap (λ xs. newest (map (own Material h p) xs)) (map-append sampled (take i ss) (s ∷ []))
+    ∙ ap newest (map-append (own Material h p) (map sampled (take i ss)) (sampled s ∷ []))
+    ∙ newest-append (map (own Material h p) (map sampled (take i ss))) (own Material h p (sampled s) ∷ [])
+
+-- of all sources
+pub newest_of_all : (h : ℕ) (p : Place) (ss : List Source) (i : ℕ) (o : Option ℤ) → length ss ≤ i → o ≡ newest_own Material (map sampled (take i ss)) h p
+    → o ≡ newest_own Material (map sampled ss) h p
+newest_of_all h p ss i o le e = e ∙ ap (λ xs. newest_own Material (map sampled xs) h p) (take_all i ss le)

@@ -1,22 +1,35 @@
 //! The value of a cell.
 ghost use Rattle.std.specs.Prelude.{◌≡◌, ◌≤◌, map};
 ghost use Rattle.cdb_grid.specs.Grid.{IsCorner};
-ghost use Rattle.cdb_grid.specs.declared.family.Family.TheVariants.{Mat};
 ghost use Rattle.cdb_source.specs.Values.{sampled, lesser, greater};
 ghost use Rattle.cdb_source.specs.Reached.{family_value};
-ghost use Rattle.cdb_scratch.specs.Summaries.{chosen, extreme_of};
+ghost use Rattle.cdb_scratch.specs.Summaries.{summary_kind, summary_of, own_of, combined};
 
 use crate::elevation::elevation;
+use crate::four::{Four, mode};
+use crate::material::own_material;
 use crate::reach::is_cell_reached;
 use crate::units::{step, width};
 use cdb_grid::Family;
-use cdb_source::Source;
+use cdb_source::{Kind, Source};
 
-/// Which elevation of a cell is asked for.
+/// What of a cell and its finer cells is asked for: the least or the greatest elevation, or the
+/// most frequent material.
 #[derive(Clone, Copy)]
-pub(crate) enum Extreme {
+pub(crate) enum Summary {
     Least,
     Greatest,
+    MostFrequent,
+}
+
+/// The kind of sources of which it is.
+fn kind(which: Summary) -> Kind
+    ensures { result ≡ summary_kind which }
+{
+    match which {
+        Summary::Least | Summary::Greatest => Kind::Elevation,
+        Summary::MostFrequent => Kind::Material,
+    }
 }
 
 /// The lesser of two values, one that is none passed over.
@@ -41,39 +54,66 @@ fn greater(a: Option<i16>, b: Option<i16>) -> Option<i16>
     }
 }
 
-fn chosen(which: Extreme, a: Option<i16>, b: Option<i16>) -> Option<i16>
-    ensures { result ≡ chosen which a b }
+/// The value of a cell by itself: the elevation at its corner, or the newest material of exactly
+/// its level at its centre.
+fn own(which: Summary, sources: &[Source], height: u32, north: u64, east: u64) -> Option<i16>
+    requires least { 1 ≤ height }
+    requires most { height ≤ 34 }
+    requires corner { IsCorner height (record { north = north; east = east }) }
+    ensures { result ≡ own_of which (map sampled sources.now) height (record { north = north; east = east }) }
 {
     match which {
-        Extreme::Least => lesser(a, b),
-        Extreme::Greatest => greater(a, b),
+        Summary::Least | Summary::Greatest => elevation(sources, height, north, east),
+        Summary::MostFrequent => own_material(sources, height, north, east),
     }
 }
 
-/// The least or the greatest elevation of the cell of a height at a corner: of its own and those of
-/// its four finer cells. Where no source reaches the cell there is none.
-fn extreme_of(which: Extreme, sources: &[Source], height: u32, north: u64, east: u64) -> Option<i16>
+/// The summary of a cell's own value and those of its four finer cells.
+fn combined(which: Summary, own: Option<i16>, four: &Four) -> Option<i16>
+    ensures { result ≡ combined which own four.now }
+{
+    match which {
+        Summary::Least => {
+            let south = lesser(four.south_west, four.south_east);
+            let north = lesser(four.north_west, four.north_east);
+            lesser(own, lesser(south, north))
+        }
+        Summary::Greatest => {
+            let south = greater(four.south_west, four.south_east);
+            let north = greater(four.north_west, four.north_east);
+            greater(own, greater(south, north))
+        }
+        Summary::MostFrequent => mode(four).or(own),
+    }
+}
+
+/// The summary of the cell of a height at a corner. Where no source reaches the cell there is none.
+fn summary_of(which: Summary, sources: &[Source], height: u32, north: u64, east: u64) -> Option<i16>
     requires most { height ≤ 34 }
     requires corner { IsCorner height (record { north = north; east = east }) }
-    ensures { result ≡ extreme_of which (map sampled sources.now) height (record { north = north; east = east }) }
+    ensures { result ≡ summary_of which (map sampled sources.now) height (record { north = north; east = east }) }
 {
     if height == 0 {
         return None;
     }
-    if !is_cell_reached(sources, height, north, east) {
+    if !is_cell_reached(kind(which), sources, height, north, east) {
         return None;
     }
     let finer = height - 1;
     let up = north + step(finer);
     let right = east + width(north) * step(finer);
-    let own = elevation(sources, height, north, east);
-    let south_west = extreme_of(which, sources, finer, north, east);
-    let south_east = extreme_of(which, sources, finer, north, right);
-    let north_west = extreme_of(which, sources, finer, up, east);
-    let north_east = extreme_of(which, sources, finer, up, right);
-    let south = chosen(which, south_west, south_east);
-    let north = chosen(which, north_west, north_east);
-    chosen(which, own, chosen(which, south, north))
+    let south_west = summary_of(which, sources, finer, north, east);
+    let south_east = summary_of(which, sources, finer, north, right);
+    let north_west = summary_of(which, sources, finer, up, east);
+    let north_east = summary_of(which, sources, finer, up, right);
+    let own = own(which, sources, height, north, east);
+    let four = Four {
+        south_west,
+        south_east,
+        north_west,
+        north_east,
+    };
+    combined(which, own, &four)
 }
 
 /// The value of the cell of a height at a corner.
@@ -84,15 +124,14 @@ pub(crate) fn value(
     north: u64,
     east: u64,
 ) -> Option<i16>
-    requires family { family ≡ Mat → ⊥ }
     requires most { height ≤ 34 }
     requires corner { IsCorner height (record { north = north; east = east }) }
     ensures { result ≡ family_value family sources.now height (record { north = north; east = east }) }
 {
     match family {
         Family::Elev => elevation(sources, height, north, east),
-        Family::Low => extreme_of(Extreme::Least, sources, height, north, east),
-        Family::High => extreme_of(Extreme::Greatest, sources, height, north, east),
-        Family::Mat => None,
+        Family::Low => summary_of(Summary::Least, sources, height, north, east),
+        Family::High => summary_of(Summary::Greatest, sources, height, north, east),
+        Family::Mat => summary_of(Summary::MostFrequent, sources, height, north, east),
     }
 }

@@ -10,7 +10,7 @@ use cdb_cut::sample;
 use cdb_source::{Kind, Source};
 
 /// What a source has at a place.
-fn sample_at(source: &Source, north: u64, east: u64) -> Option<i16>
+pub(crate) fn sample_at(source: &Source, north: u64, east: u64) -> Option<i16>
     requires north { north < 180 * degree }
     requires east { east < 360 * degree }
     ensures { result ≡ sample_at source.now (record { north = north; east = east }) }

@@ -1,10 +1,9 @@
 //! The frame of a tile, row after row.
 ghost use Rattle.std.specs.Prelude.{◌≡◌, ℕ, ◌*◌, ◌<◌, ◌↔◌, IsTrue, map, length};
 ghost use Rattle.cdb_grid.specs.Tiles.{tile_side};
-ghost use Rattle.cdb_grid.specs.declared.family.Family.TheVariants.{Mat};
 ghost use Rattle.cdb_source.specs.Reached.{kind_of, tile_value, Reached};
 ghost use Rattle.cdb_grid.specs.Frames.{number_at, number_in};
-ghost use Rattle.cdb_scratch.specs.Frames.{coded};
+ghost use Rattle.cdb_source.specs.Posts.{coded};
 
 use crate::cell::value;
 use crate::units::{corner, height};
@@ -35,7 +34,6 @@ fn coded(kind: Kind, value: Option<i16>) -> i16
 
 /// The number of the element at a row and a column of a tile.
 fn number(sources: &[Source], tile: &Tile, row: u32, col: u32) -> i16
-    requires family { tile.now.family ≡ Mat → ⊥ }
     requires row { row < tile_side tile.now }
     requires col { col < tile_side tile.now }
     ensures { result ≡ coded (kind_of tile.now.family) (tile_value sources.now tile.now row col) }
@@ -47,7 +45,6 @@ fn number(sources: &[Source], tile: &Tile, row: u32, col: u32) -> i16
 
 /// Writes the numbers of one row.
 fn put_row(sources: &[Source], tile: &Tile, row: u32, part: &mut [i16])
-    requires family { tile.now.family ≡ Mat → ⊥ }
     requires row { row < tile_side tile.now }
     requires length { length part.old ≡ tile_side tile.now }
     ensures { (col : ℕ) → col < tile_side tile.now → number_in part.new col ≡ coded (kind_of tile.now.family) (tile_value sources.now tile.now row col) }
@@ -59,7 +56,6 @@ fn put_row(sources: &[Source], tile: &Tile, row: u32, part: &mut [i16])
 
 /// Writes the numbers of all rows.
 fn put_rows(sources: &[Source], tile: &Tile, frame: &mut [i16])
-    requires family { tile.now.family ≡ Mat → ⊥ }
     requires length { length frame.old ≡ tile_side tile.now * tile_side tile.now }
     ensures { (row col : ℕ) → row < tile_side tile.now → col < tile_side tile.now →
         number_at frame.new (tile_side tile.now) row col ≡ coded (kind_of tile.now.family) (tile_value sources.now tile.now row col) }
@@ -87,11 +83,14 @@ fn is_reached(sources: &[Source], tile: &Tile) -> bool
 /// whether one of them reaches the tile. A tile can be reached and have no value at any place.
 ///
 /// The frame has `side * side` numbers for a tile of `side` elements along a side, row after row
-/// from the south and each row from west to east. Elevations are in whole metres, and -32768 stands
-/// for no value (OGC CDB 1.2 Volume 1, elevation components). It takes no memory. For the least and
-/// the greatest elevations it goes only into those finer cells that a source reaches.
+/// from the south and each row from west to east. Elevations, and the least and the greatest ones,
+/// are in whole metres, and -32768 stands for no value; materials are indices from 1 to 255, and 0
+/// stands for no value (OGC CDB 1.2 Volume 1, elevation and raster material components). An
+/// elevation is taken at the south-west corner of its element's cell, and a material at the centre.
+///
+/// It takes no memory. For all families but elevations it goes down into the four finer cells of a
+/// cell, and only where a source of a level at least as fine as the cell's has a place in it.
 pub fn build(sources: &[Source], tile: &Tile, frame: &mut [i16]) -> bool
-    requires family { tile.now.family ≡ Mat → ⊥ }
     requires length { length frame.old ≡ tile_side tile.now * tile_side tile.now }
     ensures reached { IsTrue result ↔ Reached (map (λ source. source.head) sources.now) tile.now }
     ensures length { length frame.new ≡ length frame.old }

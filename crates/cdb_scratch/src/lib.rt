@@ -3,7 +3,9 @@
 
 mod cell;
 mod elevation;
+mod four;
 mod frame;
+mod material;
 mod reach;
 #[cfg(test)]
 mod tests;

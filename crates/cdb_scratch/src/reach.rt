@@ -1,12 +1,12 @@
-//! Whether a source of elevations reaches a cell.
-ghost use Rattle.std.specs.Prelude.{◌≡◌, ◌↔◌, ◌+◌, ◌-◌, ◌*◌, ◌/◌, ◌^◌, ◌≤◌, ◌<◌, IsTrue, All, false, min, max, pos, negsuc, ◌≤ℤ◌};
+//! Whether a source reaches a cell.
+ghost use Rattle.std.specs.Prelude.{◌≡◌, ◌↔◌, ◌+◌, ◌-◌, ◌*◌, ◌/◌, ◌^◌, ◌≤◌, ◌<◌, IsTrue, min, max, pos, negsuc, ◌≤ℤ◌};
 ghost use Rattle.cdb_grid.specs.Units.{degree, step, width_at};
 ghost use Rattle.cdb_grid.specs.Grid.{IsCorner};
-ghost use Rattle.cdb_source.specs.Head.{size_of};
-ghost use Rattle.cdb_source.specs.Sample.{corner_of, row_step, column_step};
+ghost use Rattle.cdb_source.specs.declared.kind.Kind.TheVariants.{Elevation, Material};
+ghost use Rattle.cdb_source.specs.Head.{size_of, span};
+ghost use Rattle.cdb_source.specs.Sample.{corner_of, box_height, box_width};
 ghost use Rattle.cdb_source.specs.Reached.{source_height};
-ghost use Rattle.cdb_source.specs.declared.kind.Kind.TheVariants.{Elevation};
-ghost use Rattle.cdb_scratch.specs.Cells.{HasMultiple, ReachesCell};
+ghost use Rattle.cdb_scratch.specs.Cells.{HasMultiple, HasPlace, past_edge, inset_of, ReachesCell, CellReached};
 
 use crate::units;
 use cdb_grid::Arc;
@@ -21,79 +21,128 @@ fn has_multiple(step: u64, low: u64, high: u64) -> bool
     low.div_ceil(step) * step < high
 }
 
-/// How far the posts of so many rows or columns reach from the first one.
-fn extent(count: u32, step: Arc) -> u64
-    requires count { 1 ≤ count }
-    requires step { 1 ≤ size_of step.units }
-    requires room { (count - 1) * size_of step.units ≤ 360 * degree }
-    ensures { result ≡ (count - 1) * size_of step.units }
+/// One past the greatest number that isn't past the far edge of a box, which belongs to a box of
+/// elevation and not to one of material.
+fn past(kind: Kind, far: u64) -> u64
+    requires { far < 2 ^ 60 }
+    ensures { result ≡ past_edge kind far }
 {
-    (count - 1) as u64 * step.units as u64
+    match kind {
+        Kind::Elevation => far + 1,
+        Kind::Material => far,
+    }
 }
 
-/// Whether a source of elevations has a row of its level's places from `north` on for the step of a
-/// height.
-fn has_row(head: &SourceHead, height: u32, north: u64) -> bool
-    requires kind { head.now.kind ≡ Elevation }
-    requires most { height ≤ 34 }
-    requires north { north < 180 * degree }
-    ensures { let south = (corner_of head.now).north in
-        IsTrue result ↔ HasMultiple (step (source_height head.now)) (max south north) (min (south + (head.now.rows - 1) * row_step head.now + 1) (north + step height)) }
+/// Whether one stands from `low` on and below `high`, and lies in a box of a kind when it is moved by
+/// an inset.
+fn has_place(kind: Kind, step: u64, inset: u64, near: u64, far: u64, low: u64, high: u64) -> bool
+    requires step { 1 ≤ step }
+    requires near { near + step < 2 ^ 60 }
+    requires low { low + step < 2 ^ 60 }
+    requires far { far < 2 ^ 60 }
+    ensures { IsTrue result ↔ HasPlace kind step inset near far low high }
 {
-    let south = units::north_of(head.lat);
-    let past = south + extent(head.rows, head.dlat) + 1;
     has_multiple(
-        units::step(units::height(head.level)),
-        south.max(north),
-        past.min(north + units::step(height)),
+        step,
+        near.saturating_sub(inset).max(low),
+        past(kind, far).saturating_sub(inset).min(high),
     )
 }
 
-/// Whether it has a column of its level's places from `east` on for the step of a height, where
-/// geocells have a width.
+/// How far the box of a source reaches from its first row or column.
+fn extent(kind: Kind, count: u32, step: Arc) -> u64
+    requires count { 1 ≤ count }
+    requires step { 1 ≤ size_of step.units }
+    requires room { span kind count (size_of step.units) ≤ 360 * degree }
+    ensures { result ≡ span kind count (size_of step.units) }
+{
+    match kind {
+        Kind::Elevation => (count - 1) as u64 * step.units as u64,
+        Kind::Material => count as u64 * step.units as u64,
+    }
+}
+
+/// How far north of the corner of its cell a place stands.
+fn inset(kind: Kind, height: u32) -> u64
+    requires least { 1 ≤ height }
+    requires most { height ≤ 34 }
+    ensures { result ≡ inset_of kind height }
+{
+    match kind {
+        Kind::Elevation => 0,
+        Kind::Material => units::step(height - 1),
+    }
+}
+
+/// Whether a source has a row of its level's places in the cell of a height at `north`.
+fn has_row(head: &SourceHead, height: u32, north: u64) -> bool
+    requires most { height ≤ 34 }
+    requires north { north < 180 * degree }
+    ensures { let head = head.now in let own = source_height head in
+        IsTrue result ↔ HasPlace head.kind (step own) (inset_of head.kind own) (corner_of head).north ((corner_of head).north + box_height head) north (north + step height) }
+{
+    let own = units::height(head.level);
+    let south = units::north_of(head.lat);
+    has_place(
+        head.kind,
+        units::step(own),
+        inset(head.kind, own),
+        south,
+        south + extent(head.kind, head.rows, head.dlat),
+        north,
+        north + units::step(height),
+    )
+}
+
+/// Whether it has a column of its level's places in the cell of a height at `east`, where geocells
+/// have a width.
 fn has_column(head: &SourceHead, height: u32, width: u64, east: u64) -> bool
-    requires kind { head.now.kind ≡ Elevation }
     requires most { height ≤ 34 }
     requires least { 1 ≤ width }
     requires width { width ≤ 12 }
     requires east { east < 360 * degree }
-    ensures { let west = (corner_of head.now).east in
-        IsTrue result ↔ HasMultiple (width * step (source_height head.now)) (max west east) (min (west + (head.now.cols - 1) * column_step head.now + 1) (east + width * step height)) }
+    ensures { let head = head.now in let own = source_height head in
+        IsTrue result ↔ HasPlace head.kind (width * step own) (width * inset_of head.kind own) (corner_of head).east ((corner_of head).east + box_width head) east (east + width * step height) }
 {
+    let own = units::height(head.level);
     let west = units::east_of(head.lon);
-    let past = west + extent(head.cols, head.dlon) + 1;
-    has_multiple(
-        width * units::step(units::height(head.level)),
-        west.max(east),
-        past.min(east + width * units::step(height)),
+    has_place(
+        head.kind,
+        width * units::step(own),
+        width * inset(head.kind, own),
+        west,
+        west + extent(head.kind, head.cols, head.dlon),
+        east,
+        east + width * units::step(height),
     )
 }
 
-/// Whether a source of elevations reaches the cell of a height at a corner.
-fn reaches_cell(head: &SourceHead, height: u32, north: u64, east: u64) -> bool
+/// Whether a source of a kind reaches the cell of a height at a corner.
+fn reaches_cell(kind: Kind, head: &SourceHead, height: u32, north: u64, east: u64) -> bool
     requires most { height ≤ 34 }
     requires corner { IsCorner height (record { north = north; east = east }) }
-    ensures { ReachesCell height (record { north = north; east = east }) head.now → IsTrue result }
+    ensures { IsTrue result ↔ ReachesCell kind height (record { north = north; east = east }) head.now }
 {
-    if units::height(head.level) > height {
+    if head.kind != kind || units::height(head.level) > height {
         return false;
     }
-    match head.kind {
-        Kind::Elevation => {
-            has_row(head, height, north) && has_column(head, height, units::width(north), east)
-        }
-        Kind::Material => false,
-    }
+    has_row(head, height, north) && has_column(head, height, units::width(north), east)
 }
 
 /// Whether one of the sources does.
-pub(crate) fn is_cell_reached(sources: &[Source], height: u32, north: u64, east: u64) -> bool
+pub(crate) fn is_cell_reached(
+    kind: Kind,
+    sources: &[Source],
+    height: u32,
+    north: u64,
+    east: u64,
+) -> bool
     requires most { height ≤ 34 }
     requires corner { IsCorner height (record { north = north; east = east }) }
-    ensures { result ≡ false → All (λ source. ReachesCell height (record { north = north; east = east }) source.head → ⊥) sources.now }
+    ensures { IsTrue result ↔ CellReached kind height (record { north = north; east = east }) sources.now }
 {
     for source in sources {
-        if reaches_cell(&source.head, height, north, east) {
+        if reaches_cell(kind, &source.head, height, north, east) {
             return true;
         }
     }

@@ -42,7 +42,16 @@ const CORNER: Form = Form {
     dlon: (1, 1),
 };
 
-fn head(form: &Form, rows: u32, cols: u32) -> Result<SourceHead, Fail>
+/// A whole degree, of which a cell of material covers the south-west quarter alone.
+const QUARTER: Form = Form {
+    level: -10,
+    lat: (46, 1),
+    lon: (7, 1),
+    dlat: (1, 2),
+    dlon: (1, 2),
+};
+
+fn head(kind: Kind, form: &Form, rows: u32, cols: u32) -> Result<SourceHead, Fail>
     ensures rows { IfOk result (λ head. head.rows ≡ rows) }
     ensures cols { IfOk result (λ head. head.cols ≡ cols) }
 {
@@ -51,27 +60,36 @@ fn head(form: &Form, rows: u32, cols: u32) -> Result<SourceHead, Fail>
     let lon = Arc::of_fraction(form.lon.0, form.lon.1).ok_or("lon")?;
     let dlat = Arc::of_fraction(form.dlat.0, form.dlat.1).ok_or("dlat")?;
     let dlon = Arc::of_fraction(form.dlon.0, form.dlon.1).ok_or("dlon")?;
-    let head = SourceHead::new(Kind::Elevation, level, lat, lon, dlat, dlon, rows, cols);
+    let head = SourceHead::new(kind, level, lat, lon, dlat, dlon, rows, cols);
     Ok(head.ok_or("head")?)
 }
 
+/// The number that stands for no value.
+fn no_value(kind: Kind) -> i32 {
+    match kind {
+        Kind::Elevation => -32768,
+        Kind::Material => 0,
+    }
+}
+
 /// A source of one post.
-fn one_post(alloc: Global, form: &Form, post: i32) -> Result<Source, Fail> {
-    let mut maker = SourceMaker::new(alloc, head(form, 1, 1)?)?;
-    maker.push_row(&[post], -32768)?;
+fn one_post(alloc: Global, kind: Kind, form: &Form, post: i32) -> Result<Source, Fail> {
+    let mut maker = SourceMaker::new(alloc, head(kind, form, 1, 1)?)?;
+    maker.push_row(&[post], no_value(kind))?;
     Ok(maker.finish())
 }
 
 /// A source of two rows of two posts, the north row first.
 fn four_posts(
     alloc: Global,
+    kind: Kind,
     form: &Form,
     north: [i32; 2],
     south: [i32; 2],
 ) -> Result<Source, Fail> {
-    let mut maker = SourceMaker::new(alloc, head(form, 2, 2)?)?;
-    maker.push_row(&north, -32768)?;
-    maker.push_row(&south, -32768)?;
+    let mut maker = SourceMaker::new(alloc, head(kind, form, 2, 2)?)?;
+    maker.push_row(&north, no_value(kind))?;
+    maker.push_row(&south, no_value(kind))?;
     Ok(maker.finish())
 }
 
@@ -85,7 +103,7 @@ fn built(sources: &[Source], family: Family, level: i32) -> Option<(bool, [i16; 
         Arc::of_fraction(7, 1)?,
     )?;
     let side = side(tile.level) as usize;
-    if side > 2 || tile.family == Family::Mat {
+    if side > 2 {
         return None;
     }
     let mut frame = [0; 4];
@@ -95,7 +113,7 @@ fn built(sources: &[Source], family: Family, level: i32) -> Option<(bool, [i16; 
 
 #[test]
 fn one_source(rt: HostRuntime) -> Result<(), Fail> {
-    let sources = [four_posts(rt.alloc(), &HALF, [30, 40], [10, 20])?];
+    let sources = [four_posts(rt.alloc(), Kind::Elevation, &HALF, [30, 40], [10, 20])?];
     assert!(rt; built(&sources, Family::Elev, -9) == Some((true, [10, 20, 30, 40])));
     assert!(rt; built(&sources, Family::Elev, -10) == Some((true, [10, 0, 0, 0])));
     assert!(rt; built(&sources, Family::Low, -10) == Some((true, [10, 0, 0, 0])));
@@ -106,8 +124,8 @@ fn one_source(rt: HostRuntime) -> Result<(), Fail> {
 
 #[test]
 fn a_newer_coarser_source(rt: HostRuntime) -> Result<(), Fail> {
-    let finer = four_posts(rt.alloc(), &HALF, [30, 40], [10, 20])?;
-    let coarser = one_post(rt.alloc(), &WHOLE, 99)?;
+    let finer = four_posts(rt.alloc(), Kind::Elevation, &HALF, [30, 40], [10, 20])?;
+    let coarser = one_post(rt.alloc(), Kind::Elevation, &WHOLE, 99)?;
     let sources = [finer, coarser];
     assert!(rt; built(&sources, Family::Elev, -10) == Some((true, [10, 0, 0, 0])));
     assert!(rt; built(&sources, Family::High, -10) == Some((true, [40, 0, 0, 0])));
@@ -116,10 +134,60 @@ fn a_newer_coarser_source(rt: HostRuntime) -> Result<(), Fail> {
 
 #[test]
 fn a_source_of_the_finest_level(rt: HostRuntime) -> Result<(), Fail> {
-    let sources = [one_post(rt.alloc(), &CORNER, 7)?];
+    let sources = [one_post(rt.alloc(), Kind::Elevation, &CORNER, 7)?];
     assert!(rt; built(&sources, Family::Elev, -10) == Some((true, [-32768, 0, 0, 0])));
     assert!(rt; built(&sources, Family::Low, -10) == Some((true, [7, 0, 0, 0])));
     assert!(rt; built(&sources, Family::High, -10) == Some((true, [7, 0, 0, 0])));
     assert!(rt; built(&[], Family::Low, -10) == Some((false, [-32768, 0, 0, 0])));
+    Ok(())
+}
+
+#[test]
+fn a_newer_source_of_one_level(rt: HostRuntime) -> Result<(), Fail> {
+    let older = one_post(rt.alloc(), Kind::Elevation, &WHOLE, 99)?;
+    let newer = one_post(rt.alloc(), Kind::Elevation, &WHOLE, -3)?;
+    let sources = [older, newer];
+    assert!(rt; built(&sources, Family::Elev, -10) == Some((true, [-3, 0, 0, 0])));
+    assert!(rt; built(&sources, Family::High, -10) == Some((true, [-3, 0, 0, 0])));
+    assert!(rt; built(&sources, Family::Mat, -10) == Some((false, [0, 0, 0, 0])));
+    Ok(())
+}
+
+#[test]
+fn materials(rt: HostRuntime) -> Result<(), Fail> {
+    let two_of_each = four_posts(rt.alloc(), Kind::Material, &HALF, [3, 5], [5, 3])?;
+    let sources = [two_of_each];
+    assert!(rt; built(&sources, Family::Mat, -10) == Some((true, [3, 0, 0, 0])));
+    assert!(rt; built(&sources, Family::Mat, -9) == Some((true, [5, 3, 3, 5])));
+    assert!(rt; built(&sources, Family::Elev, -10) == Some((false, [-32768, 0, 0, 0])));
+    let one_alone = four_posts(rt.alloc(), Kind::Material, &HALF, [0, 0], [0, 7])?;
+    let sources = [one_alone];
+    assert!(rt; built(&sources, Family::Mat, -10) == Some((true, [7, 0, 0, 0])));
+    assert!(rt; built(&sources, Family::Mat, -9) == Some((true, [0, 7, 0, 0])));
+    Ok(())
+}
+
+#[test]
+fn a_newer_coarser_material(rt: HostRuntime) -> Result<(), Fail> {
+    let finer = four_posts(rt.alloc(), Kind::Material, &HALF, [3, 5], [5, 3])?;
+    let coarser = one_post(rt.alloc(), Kind::Material, &WHOLE, 8)?;
+    let sources = [finer, coarser];
+    assert!(rt; built(&sources, Family::Mat, -10) == Some((true, [3, 0, 0, 0])));
+    Ok(())
+}
+
+#[test]
+fn materials_of_one_level(rt: HostRuntime) -> Result<(), Fail> {
+    let older = one_post(rt.alloc(), Kind::Material, &WHOLE, 8)?;
+    let newer = one_post(rt.alloc(), Kind::Material, &WHOLE, 9)?;
+    let sources = [older, newer];
+    assert!(rt; built(&sources, Family::Mat, -10) == Some((true, [9, 0, 0, 0])));
+    Ok(())
+}
+
+#[test]
+fn a_material_beside_the_centre(rt: HostRuntime) -> Result<(), Fail> {
+    let sources = [one_post(rt.alloc(), Kind::Material, &QUARTER, 4)?];
+    assert!(rt; built(&sources, Family::Mat, -10) == Some((false, [0, 0, 0, 0])));
     Ok(())
 }

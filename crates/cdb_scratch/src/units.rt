@@ -1,6 +1,7 @@
 //! Places in arc units north of the south pole and east of the meridian of -180 degrees.
 ghost use Rattle.std.specs.Prelude.{◌≡◌, ◌+◌, ◌*◌, ◌/◌, ◌^◌, ◌≤◌, ◌<◌, true, pos, negsuc, ◌≤ℤ◌};
 ghost use Rattle.cdb_grid.specs.Units.{degree, height_of, step, width_at, from_pole, from_west};
+ghost use Rattle.cdb_grid.specs.Grid.{IsCorner, centre};
 ghost use Rattle.cdb_grid.specs.Tiles.{tile_side, element_corner};
 ghost use Rattle.cdb_source.specs.Sample.{is_on_globe};
 
@@ -37,6 +38,19 @@ pub(crate) fn width(north: u64) -> u64
     ensures most { result ≤ 12 }
 {
     zone_of(((north / DEGREE) as i64 - 90) as i8).width as u64
+}
+
+/// The centre of the cell of a height at a corner.
+pub(crate) fn centre(height: u32, north: u64, east: u64) -> (u64, u64)
+    requires least { 1 ≤ height }
+    requires most { height ≤ 34 }
+    requires corner { IsCorner height (record { north = north; east = east }) }
+    ensures value { record { north = result.0; east = result.1 } ≡ centre height (record { north = north; east = east }) }
+    ensures north { result.0 < 180 * degree }
+    ensures east { result.1 < 360 * degree }
+{
+    let half = step(height - 1);
+    (north + half, east + width(north) * half)
 }
 
 /// Arc units from the south pole.

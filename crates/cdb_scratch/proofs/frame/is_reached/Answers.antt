@@ -1,8 +1,7 @@
 use Rattle.std.proofs.Common.{refl}
 use Rattle.cdb_source.specs.declared.source.Source.{Source}
 use Rattle.cdb_source.specs.Reached.{Reaches}
-use Rattle.cdb_scratch.proofs.CellLaws.{none_more, none_of_all}
-use Rattle.cdb_scratch.proofs.ReachedLaws.{reached_at, none_reached}
+use Rattle.cdb_scratch.proofs.ReachedLaws.{none_more, none_of_all, reached_at, none_reached}
 use Rattle.cdb_scratch.proofs.frame.is_reached.Goals as goal
 
 pub returns-then-reaches : goal.returns-then-reaches

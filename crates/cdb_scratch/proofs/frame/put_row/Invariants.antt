@@ -1,7 +1,7 @@
 use Rattle.std.proofs.Common.{◌≡◌, ℕ, ◌<◌}
 use Rattle.cdb_source.specs.Reached.{kind_of, tile_value}
 use Rattle.cdb_grid.specs.Frames.{number_in}
-use Rattle.cdb_scratch.specs.Frames.{coded}
+use Rattle.cdb_source.specs.Posts.{coded}
 use Rattle.cdb_scratch.proofs.frame.put_row.Given as goal
 
 abbrev pub invariant-loop-col : goal.invariant-loop-col

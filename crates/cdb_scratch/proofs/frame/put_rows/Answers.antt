@@ -1,7 +1,7 @@
 use Rattle.std.proofs.Common.{◌≡◌, ℕ, ◌+◌, ◌-◌, ◌*◌, ◌<◌, length, ap, arith}
 use Rattle.cdb_grid.specs.Tiles.{tile_side}
 use Rattle.cdb_source.specs.Reached.{kind_of, tile_value}
-use Rattle.cdb_scratch.specs.Frames.{coded}
+use Rattle.cdb_source.specs.Posts.{coded}
 use Rattle.cdb_scratch.proofs.FrameLaws.{row_more, span_of}
 use Rattle.cdb_scratch.proofs.frame.put_rows.Goals as goal
 

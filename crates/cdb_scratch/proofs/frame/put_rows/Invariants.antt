@@ -2,7 +2,7 @@ use Rattle.std.proofs.Common.{◌≡◌, ℕ, ◌<◌}
 use Rattle.cdb_grid.specs.Tiles.{tile_side}
 use Rattle.cdb_source.specs.Reached.{kind_of, tile_value}
 use Rattle.cdb_grid.specs.Frames.{number_at}
-use Rattle.cdb_scratch.specs.Frames.{coded}
+use Rattle.cdb_source.specs.Posts.{coded}
 use Rattle.cdb_scratch.proofs.frame.put_rows.Given as goal
 
 abbrev pub invariant-loop-row : goal.invariant-loop-row

@@ -1,6 +1,6 @@
 use Rattle.std.proofs.Common.{ℕ, ◌*◌, ap}
 use Rattle.cdb_touch.proofs.AxisLaws.{IsFirst, first_of}
-use Rattle.cdb_scratch.proofs.CellLaws.{multiple_from_first, multiple_below, test_of, of_test}
+use Rattle.cdb_scratch.proofs.PlaceLaws.{multiple_from_first, multiple_below, test_of, of_test}
 use Rattle.cdb_scratch.proofs.reach.has_multiple.Goals as goal
 
 pub returns : goal.returns
