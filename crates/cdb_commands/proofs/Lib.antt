@@ -1,6 +1,5 @@
 pub mod Parts
 pub mod Digits
-pub mod Geocells
 pub mod PathLemmas
 pub mod PostLemmas
 pub mod Rows

@@ -1,93 +1,58 @@
--- Lines that are answered today, and lines that aren't, worked through their definition.
-use Rattle.std.proofs.Common.{◌≡◌, codes, refl}
+-- Lines worked through their definition.
+use Rattle.std.proofs.Common.{◌≡◌, [], ◌∷◌, None, Some, codes, refl}
 use Rattle.std.specs.Prelude.{pos, negsuc}
-use Rattle.cdb_grid.specs.declared.family.Family.TheVariants.{Elev}
-use Rattle.cdb_model.specs.Words.{digits, signed, signed_between}
-use Rattle.cdb_model.specs.BuiltLines.{inline_words, after_one_post, lat_at, lon_at, name_of, tile_words}
-use Rattle.cdb_model.specs.Commands.{Command, inline, publish, step_all, open_session, tile, quit, blank, not_built, command_of}
+use Rattle.cdb_source.specs.declared.kind.Kind.TheVariants.{Elevation}
+use Rattle.cdb_model.specs.Words.{digits, signed}
+use Rattle.cdb_model.specs.Grammar.{Sentence, inline, source, publish, step, step_all, tile, blank, line_of, inline_source, file_source, head, fraction, posts, path, file_name, tile_request, one_word, sentence}
 use Rattle.cdb_model.specs.Text.{Text}
 
-abbrev Says : Text → Command → Type 0
-Says line command = command_of line ≡ command
+abbrev Says : Text → Sentence → Type 0
+Says line s = line_of line ≡ Some s
 
--- the lines of a first run: a source, its publication, and a tile of it
-source : Says (codes "inline elev -10 46 7 1 1 1 1 500") (inline (pos 46) (pos 7) (pos 500))
-unfolding command_of inline_words after_one_post signed_between signed digits
-source = refl
+-- four posts at steps of half a degree
+four_posts : Says (codes "inline elev -9 46 7 1/2 1/2 2 2 30 40 10 20") (inline (record {
+  head = record { kind = Elevation; level = negsuc 8; lat = record { n = pos 46; d = pos 1 }; lon = record { n = pos 7; d = pos 1 }; dlat = record { n = pos 1; d = pos 2 }; dlon = record { n = pos 1; d = pos 2 } };
+  rows = 2;
+  cols = 2;
+  posts = pos 30 ∷ pos 40 ∷ pos 10 ∷ pos 20 ∷ [];
+}))
+unfolding line_of sentence inline_source head fraction posts signed digits
+four_posts = refl
+
+-- a file of the shelf
+from_file : Says (codes "source elev -9 46 7 1/2 1/2 -32768 a.tif") (source (record {
+  head = record { kind = Elevation; level = negsuc 8; lat = record { n = pos 46; d = pos 1 }; lon = record { n = pos 7; d = pos 1 }; dlat = record { n = pos 1; d = pos 2 }; dlon = record { n = pos 1; d = pos 2 } };
+  novalue = negsuc 32767;
+  path = codes "a.tif";
+}))
+unfolding line_of sentence file_source head fraction path signed digits
+from_file = refl
 
 publication : Says (codes "publish") publish
-unfolding command_of
+unfolding line_of sentence one_word
 publication = refl
 
 steps : Says (codes "step all") step_all
-unfolding command_of
+unfolding line_of sentence
 steps = refl
 
-session : Says (codes "open") open_session
-unfolding command_of
-session = refl
+eight_steps : Says (codes "step 8") (step 8)
+unfolding line_of sentence digits
+eight_steps = refl
 
-tile_there : Says (codes "tile 1 N46E007_D001_S001_T001_LC10_U0_R0.tif") (tile 1 Elev (negsuc 9) (pos 46) (pos 7) 0 0)
-unfolding command_of tile_words name_of lat_at lon_at digits
-tile_there = refl
-
-last_tile : Says (codes "tile 000000001 S50W180_D001_S001_T001_LC10_U0_R0.tif") (tile 1 Elev (negsuc 9) (negsuc 49) (negsuc 179) 0 0)
-unfolding command_of tile_words name_of lat_at lon_at digits
-last_tile = refl
-
-end : Says (codes "quit") quit
-unfolding command_of
-end = refl
+named : Says (codes "tile 01 A") (tile 1 (codes "A"))
+unfolding line_of sentence digits file_name tile_request
+named = refl
 
 no_byte : Says (codes "") blank
-unfolding command_of
+unfolding line_of
 no_byte = refl
 
--- leading zeros, and a zero with a minus
-zeros : Says (codes "inline elev -10 -0 -000000000000000180 1 1 1 1 -32768") (inline (pos 0) (negsuc 179) (negsuc 32767))
-unfolding command_of inline_words after_one_post signed_between signed digits
-zeros = refl
+-- too few words, two spaces, and a carriage return
+too_few : line_of (codes "inline elev 0 46") ≡ None
+unfolding line_of sentence inline_source head fraction signed digits
+too_few = refl
 
--- lines that aren't answered yet
-versions_line : Says (codes "versions") not_built
-unfolding command_of
-versions_line = refl
-
-finer : Says (codes "inline elev -9 46 7 1/2 1/2 2 2 30 40 10 20") not_built
-unfolding command_of inline_words after_one_post signed_between signed digits
-finer = refl
-
-two_posts : Says (codes "inline elev -10 46 7 1 1 1 1 5 5") not_built
-unfolding command_of inline_words after_one_post signed_between signed digits
-two_posts = refl
-
--- a level, a step and a coordinate in another writing
-other_level : Says (codes "inline elev -010 46 7 1 1 1 1 5") not_built
-unfolding command_of inline_words after_one_post signed_between signed digits
-other_level = refl
-
-other_step : Says (codes "inline elev -10 46 7 1/1 1 1 1 5") not_built
-unfolding command_of inline_words after_one_post signed_between signed digits
-other_step = refl
-
-fraction : Says (codes "inline elev -10 46/1 7 1 1 1 1 5") not_built
-unfolding command_of inline_words after_one_post signed_between signed digits
-fraction = refl
-
--- numbers just out of range
-north : Says (codes "inline elev -10 50 7 1 1 1 1 5") not_built
-unfolding command_of inline_words after_one_post signed_between signed digits
-north = refl
-
-high_post : Says (codes "inline elev -10 46 7 1 1 1 1 32768") not_built
-unfolding command_of inline_words after_one_post signed_between signed digits
-high_post = refl
-
--- two spaces, and a carriage return
-two_spaces : Says (codes "step  all") not_built
-unfolding command_of
+two_spaces : line_of (codes "step  all") ≡ None
+unfolding line_of sentence digits
 two_spaces = refl
-
-carriage_return : Says (codes "publish\r") not_built
-unfolding command_of
-carriage_return = refl

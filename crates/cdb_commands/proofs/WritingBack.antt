@@ -6,8 +6,8 @@ use Rattle.std.specs.Fmt.{decimal, signed_decimal}
 use Rattle.std.specs.List.{list_all, slice_split, join_with_byte}
 use Rattle.std.specs.Str.{bytes_eq}
 use Rattle.std.proofs.lemmas.Bool.Decides.{nat_tests}
-use Rattle.cdb_model.specs.declared.kind.Kind.{Kind}
-use Rattle.cdb_model.specs.declared.kind.Kind.TheVariants.{Elevation, Material}
+use Rattle.cdb_source.specs.declared.kind.Kind.{Kind}
+use Rattle.cdb_source.specs.declared.kind.Kind.TheVariants.{Elevation, Material}
 use Rattle.cdb_model.specs.Text.{Text}
 use Rattle.cdb_model.specs.Words.{digits, is_space}
 use Rattle.cdb_model.specs.Grammar.{Head, InlineSource, FileSource, Sentence, inline, source, publish, step, step_all, open_session, tile, close, versions, quit, blank, kind_word, path, file_name, head, inline_source, file_source, tile_request, step_word, one_word, sentence, line_of, is_slash, is_part}

@@ -7,7 +7,7 @@ use crate::fraction::read_fraction;
 use crate::numbers::{read_count, read_small};
 use crate::words::Words;
 use cdb_grid::Fraction;
-use cdb_model::Kind;
+use cdb_source::Kind;
 
 fn read_kind(word: &[u8]) -> Option<Kind>
     ensures { result ≡ kind_word word.now }

@@ -6,7 +6,7 @@ ghost use Rattle.cdb_commands.specs.Meaning.{head_in};
 use crate::fields::{fraction_field, kind_field, small_field};
 use crate::words::Words;
 use cdb_grid::Fraction;
-use cdb_model::Kind;
+use cdb_source::Kind;
 
 /// The words that a source begins with: what its posts are, its level, its south-west corner and
 /// its steps in degrees.

@@ -1,10 +1,8 @@
 //! The lines of the script: what a line says, read from its bytes.
 #![tactic(auto)]
 
-mod built;
 mod fields;
 mod fraction;
-mod geocell_name;
 mod head;
 mod laws;
 mod numbers;
@@ -17,7 +15,6 @@ mod sources;
 mod tests;
 mod words;
 
-pub use built::read_built;
 pub use cdb_model::{InlineWords, Line, LineError, LoadWords};
 pub use laws::writing_reads_back;
 pub use reading::read_line;

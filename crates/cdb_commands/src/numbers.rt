@@ -2,7 +2,7 @@ ghost use Rattle.std.specs.Prelude.{◌≡◌, true, ℤ, pos, negsuc, neg_ℤ, 
 ghost use Rattle.std.specs.Char.{is_ascii_digit};
 ghost use Rattle.std.specs.List.{list_all};
 ghost use Rattle.std.specs.Str.Parse.{digits_value};
-ghost use Rattle.cdb_model.specs.Words.{digits, signed, signed_between};
+ghost use Rattle.cdb_model.specs.Words.{digits, signed};
 
 fn all_digits(word: &[u8]) -> bool
     ensures { result ≡ list_all is_ascii_digit word.now }
@@ -85,20 +85,4 @@ pub fn read_small(word: &[u8], most: usize) -> Option<i32>
 {
     let number = read_signed(word, most)?;
     Some(number as i32)
-}
-
-/// A signed number from `low` to `high` of at most `most` digits, where `most` is at most 18.
-#[tactic(auto, unfolding(cdb_model::specs::Words::signed_between))]
-pub fn read_signed_between(word: &[u8], most: usize, low: i64, high: i64) -> Option<i64>
-    requires { most ≤ 18 }
-    ensures value { result ≡ signed_between most low high word.now }
-    ensures least { IfSome result (λ z. low ≤ℤ z) }
-    ensures greatest { IfSome result (λ z. z ≤ℤ high) }
-{
-    let number = read_signed(word, most)?;
-    if low <= number && number <= high {
-        Some(number)
-    } else {
-        None
-    }
 }

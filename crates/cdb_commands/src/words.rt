@@ -1,6 +1,6 @@
 ghost use Rattle.std.specs.Prelude.{◌≡◌, ◌≤◌, ◌==◌, length, ◌∷◌, option_map, option_copied};
 ghost use Rattle.std.specs.List.{position_or_len};
-ghost use Rattle.cdb_model.specs.Words.{words, first_word, after_word, only_word};
+ghost use Rattle.cdb_model.specs.Words.{words, first_word, only_word};
 ghost use Rattle.cdb_commands.specs.Left.{left};
 
 /// What is left of a line: its next words, separated by single spaces, or none.
@@ -36,14 +36,6 @@ impl<'a> Words<'a> {
             Some(_) => None,
             None => Some(word),
         }
-    }
-
-    /// The words after the next one, where that is `word`.
-    pub fn after(self, word: &[u8]) -> Option<Words<'a>>
-        ensures { option_map (λ w. left w) result ≡ after_word word.now (left self.entry) }
-    {
-        let (next, rest) = self.next()?;
-        if next == word { Some(rest) } else { None }
     }
 }
 
