@@ -1,3 +1,8 @@
-pub mod SourceLists
-pub mod Geocells
-pub mod ValueLaws
+pub mod PieceLaws
+pub mod RowLaws
+pub mod HeadLaws
+pub mod FileLaws
+pub mod MaterialPosts
+pub mod RasterLaws
+pub mod SpelledLaws
+pub mod TileAnswers

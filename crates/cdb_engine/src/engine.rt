@@ -1,19 +1,30 @@
-ghost use Rattle.std.specs.Prelude.{◌≡◌, ◌<◌, ◌≤◌, ◌↔◌, pos, negsuc, ◌≤ℤ◌, [], length, is_some, IsSome, IsOk, IfOk, IfErr, OnOk, OnErr, slice_index_or};
-ghost use Rattle.cdb_model.specs.declared.source.Source as model;
-ghost use Rattle.cdb_model.specs.Commands.{IsBuiltOrder};
-ghost use Rattle.cdb_model.specs.Machine.{Held, Step, start, give, begin, finish, connect, ask, session_of};
-ghost use Rattle.cdb_engine.specs.Answers.{ready_answer, submit_answer, publish_answer, finish_answer, session_answer, tile_answer, HasBytes};
+ghost use Rattle.std.specs.Prelude.{◌≡◌, ◌++◌, ◌∷◌, ◌+◌, ◌<◌, ◌≤◌, ◌↔◌, [], length, is_some, IsSome, IsErr, IfOk, IfErr, OnOk, OnErr, ◌^◌};
+ghost use Rattle.cdb_model.specs.Causes.{Rose};
+ghost use Rattle.cdb_model.specs.Grammar.{InlineSource, FileSource, inline_in, file_in};
+ghost use Rattle.cdb_model.specs.Machine.{Held, Step, SpellsNone, start, give, begin, finish, connect, ask, disconnect, tell, session_of};
+ghost use Rattle.cdb_model.specs.Machine as machine;
+ghost use Rattle.cdb_model.specs.Maps.{Content};
+ghost use Rattle.cdb_model.specs.Spelled.{SpellsSource};
+ghost use Rattle.cdb_engine.specs.Answers.{ready_answer, publish_answer, finish_answer, session_answer, close_answer, tile_answer, HasBytes};
+ghost use Rattle.cdb_engine.specs.Loading.{LoadOutcome};
 
-use crate::InlineOrder;
 use crate::errors::{
-    AdvanceError, InlineError, PublishError, ReadyError, SessionError, SubmitRefused, TileError,
+    AdvanceError, InlineError, LoadError, PublishError, ReadyError, SessionError, SubmitRefused,
+    TileError, Unknown,
 };
-use crate::publications::{are_reaching, newest_post, next_version, up_to};
+use crate::posts::spelled;
+use crate::publications::Publications;
 use crate::reply::{Begun, Opened, Reply};
+use crate::sessions::{remove_session, session_of};
+use crate::source_file::loaded;
 use crate::sources::Sources;
-use crate::tile_file::put_file;
-use cdb_grid::{Geocell, Tile};
-use cdb_model::{Session, Source};
+use crate::tile_file::reply_with;
+use crate::touched_files::{CountError, count_files};
+use crate::{InlineOrder, LoadOrder};
+use cdb_files::Shelf;
+use cdb_grid::Tile;
+use cdb_model::Session;
+use cdb_source::Source;
 use std::alloc::{AllocError, Global};
 use std::marker::Model;
 
@@ -21,14 +32,15 @@ use std::marker::Model;
 const MOST: usize = 64;
 
 /// The publications, the sources that are pending, the publication that is going, and the open
-/// sessions, all in memory.
+/// sessions, all in memory; and the values and the bytes of the tile that was asked for last.
 #[derive(Drop)]
 pub struct Engine {
-    publications: Vec<Sources>,
+    publications: Publications,
     pending: Sources,
     going: Option<Sources>,
     sessions: Vec<Session>,
     opened: u32,
+    frame: Vec<i16>,
     reply: Vec<u8>,
 }
 
@@ -37,7 +49,7 @@ impl Model for Engine {
 
     ghost view = { λ e. record {
       state = record {
-        list = e.publications.items;
+        list = e.publications;
         pending = e.pending;
         going = e.going;
         sessions = e.sessions.items;
@@ -46,7 +58,7 @@ impl Model for Engine {
       reply = e.reply.items;
     } };
 
-    ghost invariant = { λ e. (length e.pending ≤ 64) × (length e.sessions.items ≤ 64) };
+    ghost invariant = { λ e. (length e.publications < 2 ^ 32) × (length e.pending ≤ 64) × (length e.sessions.items ≤ 64) };
 }
 
 impl Engine {
@@ -55,11 +67,12 @@ impl Engine {
         ensures { IfOk result (λ engine. engine ≡ record { state = start; reply = [] }) }
     {
         Ok(Engine {
-            publications: Vec::new(alloc),
+            publications: Publications::new(alloc),
             pending: Sources::new(alloc),
             going: None,
             sessions: Vec::new(alloc),
             opened: 0,
+            frame: Vec::new(alloc),
             reply: Vec::new(alloc),
         })
     }
@@ -72,8 +85,10 @@ impl Engine {
         ensures busy { (result ≡ Err ReadyError.Busy) ↔ IsSome self.now.state.going }
         ensures full { (result ≡ Err ReadyError.Full)
             ↔ ((self.now.state.going ≡ None) × (length self.now.state.pending ≡ 64)) }
-        ensures step { IfErr result (λ error. (source : model.Source)
-            → Step self.now.state (give source) (ready_answer error) self.now.state) }
+        ensures gives { IfErr result (λ error. (words : InlineSource)
+            → Step self.now.state (give words) (ready_answer error) self.now.state) }
+        ensures loads { IfErr result (λ error. (words : FileSource) (content : Content)
+            → Step self.now.state (machine.load words content) (ready_answer error) self.now.state) }
     {
         if self.going.is_some() {
             Err(ReadyError::Busy)
@@ -91,24 +106,50 @@ impl Engine {
         self.going.is_some()
     }
 
-    /// Makes a source of one post in a geocell, as its line says.
-    pub fn inline(&self, order: &InlineOrder) -> Result<Source, InlineError>
-        requires { IsBuiltOrder order.now }
-        ensures always { IsOk result }
-        ensures lat { IfOk result (λ source. source.cell.lat ≡ order.now.lat.n) }
-        ensures lon { IfOk result (λ source. source.cell.lon ≡ order.now.lon.n) }
-        ensures post { IfOk result (λ source. source.post ≡ slice_index_or order.now.posts.items 0 (pos 0)) }
+    /// The number of publications, which is the newest version.
+    pub fn versions(&self) -> u32
+        ensures { Step self.now.state tell (machine.versions result) self.now.state }
     {
-        let cell = geocell(order.lat.n as i8, order.lon.n as i16);
-        let post = order.posts[0] as i16;
-        Ok(Source { cell, post })
+        self.publications.len() as u32
     }
 
-    /// Puts a source behind those that are pending, and answers how many are pending then.
+    /// Makes the source that an order spells. The number that has no value is -32768 for elevation
+    /// and 0 for material. `Range` exactly where the order spells no source: a level that isn't
+    /// one, a coordinate or a step that is no whole number of arc units or out of range, rows and
+    /// columns out of range, another number of posts, or a post out of range.
+    pub fn inline(&self, alloc: Global, order: &InlineOrder) -> Result<Source, InlineError>
+        ensures spelled { IfOk result (SpellsSource (inline_in order.now)) }
+        ensures range { result ≡ Err InlineError.Range → SpellsNone (SpellsSource (inline_in order.now)) }
+    {
+        spelled(alloc, order)
+    }
+
+    /// Makes the source that an order spells with its file of the shelf, which is read in one
+    /// piece, opened as a TIFF file, and given row by row. The errors come in this order: `Shelf`
+    /// only where a call of the shelf failed, `Absent` exactly where there is no such file, `Big`
+    /// exactly where it has more than 67,108,864 bytes, `Input` exactly where it isn't a TIFF file
+    /// that is read, and `Range` exactly where the order spells no source with it.
+    pub fn load<H: Shelf>(
+        &self,
+        alloc: Global,
+        order: &LoadOrder,
+        shelf: &mut H,
+    ) -> Result<Source, LoadError>
+        ensures loads { LoadOutcome H.tells (H.files shelf.old order.now.path.bytes) (file_in order.now) result }
+        ensures files { H.files shelf.new ≡ H.files shelf.old }
+        ensures later { H.fault_count shelf.old ≤ H.fault_count shelf.new }
+        ensures failed { result ≡ Err LoadError.Shelf → Rose (H.fault_count shelf.old) (H.fault_count shelf.new) }
+    {
+        loaded(alloc, order, shelf)
+    }
+
+    /// Puts a source behind those that are pending, and answers how many are pending then. Where
+    /// memory is wanting the source comes back.
     pub fn submit(&mut self, source: Source) -> Result<u32, SubmitRefused>
         requires idle { self.old.state.going ≡ None }
         requires room { length self.old.state.pending < 64 }
-        ensures step { Step self.old.state (give source) (submit_answer result) self.new.state }
+        ensures number { IfOk result (λ number. number ≡ length self.old.state.pending + 1) }
+        ensures next { OnOk result (self.new.state ≡ record self.old.state { pending = self.old.state.pending ++ source ∷ [] }) }
         ensures refused { IfErr result (λ refused. refused.source ≡ source) }
         ensures err { OnErr result (self.new ≡ self.old) }
         ensures reply { self.new.reply ≡ self.old.reply }
@@ -121,9 +162,10 @@ impl Engine {
         }
     }
 
-    /// Begins a publication of the sources that are pending. It has three files for each geocell of a
-    /// source: elevations, least and greatest elevations.
-    pub fn publish(&mut self) -> Result<Begun, PublishError>
+    /// Begins a publication of the sources that are pending. It has a file for each tile that they
+    /// touch. `Busy`: a publication is going. `Nothing`: no source is pending. `Large`: the load of
+    /// the sources, `count`, is above 16,384.
+    pub fn publish(&mut self, alloc: Global) -> Result<Begun, PublishError>
         ensures step { Step self.old.state begin (publish_answer result) self.new.state }
         ensures busy { (result ≡ Err PublishError.Busy) ↔ IsSome self.old.state.going }
         ensures nothing { (result ≡ Err PublishError.Nothing)
@@ -137,38 +179,45 @@ impl Engine {
         if self.pending.len() == 0 {
             return Err(PublishError::Nothing);
         }
-        let Some(version) = next_version(&self.publications) else {
+        let Some(version) = self.publications.next_version() else {
             return Err(PublishError::Memory);
         };
-        let files = 3 * self.pending.count_cells() as u32;
-        self.going = Some(self.pending.take());
-        Ok(Begun { version, files })
+        match count_files(alloc, &self.pending) {
+            Ok(files) => {
+                self.going = Some(self.pending.take());
+                Ok(Begun { version, files })
+            }
+            Err(CountError::Large { count }) => Err(PublishError::Large { count }),
+            Err(CountError::Memory) => Err(PublishError::Memory),
+        }
     }
 
-    /// Makes all steps of the publication that is going, and answers its version.
+    /// Makes all steps of the publication that is going, and answers its version. `Nothing`: none
+    /// is going.
     pub fn finish(&mut self) -> Result<u32, AdvanceError>
         ensures step { Step self.old.state finish (finish_answer result) self.new.state }
         ensures nothing { (result ≡ Err AdvanceError.Nothing) ↔ (self.old.state.going ≡ None) }
         ensures err { OnErr result (self.new ≡ self.old) }
         ensures reply { self.new.reply ≡ self.old.reply }
     {
-        let Some(sources) = self.going.take() else {
+        let Some(mut sources) = self.going.take() else {
             return Err(AdvanceError::Nothing);
         };
-        let Some(version) = next_version(&self.publications) else {
+        let Some(version) = self.publications.next_version() else {
             self.going = Some(sources);
             return Err(AdvanceError::Memory);
         };
-        match self.publications.push(sources) {
+        match self.publications.push(&mut sources) {
             Ok(()) => Ok(version),
-            Err(failed) => {
-                self.going = Some(failed.value);
+            Err(_) => {
+                self.going = Some(sources);
                 Err(AdvanceError::Memory)
             }
         }
     }
 
-    /// Opens a session at the newest version. `Many`: 64 sessions are open.
+    /// Opens a session at the newest version. Numbers are 1, 2, 3 and so on, and none is used again.
+    /// `Many`: 64 sessions are open.
     pub fn open_session(&mut self) -> Result<Opened, SessionError>
         ensures step { Step self.old.state connect (session_answer result) self.new.state }
         ensures many { (result ≡ Err SessionError.Many) ↔ (length self.old.state.sessions ≡ 64) }
@@ -181,9 +230,7 @@ impl Engine {
         let Some(id) = self.opened.checked_add(1) else {
             return Err(SessionError::Memory);
         };
-        let Ok(version) = u32::try_from(self.publications.len()) else {
-            return Err(SessionError::Memory);
-        };
+        let version = self.versions();
         match self.sessions.push(Session { id, version }) {
             Ok(()) => {
                 self.opened = id;
@@ -193,26 +240,36 @@ impl Engine {
         }
     }
 
-    /// Asks for the elevation tile of level -10 at the geocell of `tile`, in a session. Where a source
-    /// reaches it, `Engine::reply` has the bytes of its file then. `Unknown`: no session of that number
-    /// is open.
+    /// Ends the session of this number. `Unknown`: no session of that number is open.
+    pub fn close_session(&mut self, id: u32) -> Result<(), Unknown>
+        ensures step { Step self.old.state (disconnect id) (close_answer result) self.new.state }
+        ensures unknown { IsErr result ↔ (session_of id self.old.state.sessions ≡ None) }
+        ensures err { OnErr result (self.new ≡ self.old) }
+        ensures reply { self.new.reply ≡ self.old.reply }
+    {
+        if session_of(&self.sessions, id).is_none() {
+            return Err(Unknown);
+        }
+        remove_session(&mut self.sessions, id);
+        Ok(())
+    }
+
+    /// Asks for a tile in a session, which answers from the publications up to its version. Where
+    /// a source of these reaches the tile, `Engine::reply` has the bytes of its file then. `Unknown`:
+    /// no session of that number is open.
     pub fn tile(&mut self, id: u32, tile: &Tile) -> Result<Reply, TileError>
         ensures step { Step self.old.state (ask id tile.now) (tile_answer result self.new.reply) self.new.state }
         ensures unknown { (result ≡ Err TileError.Unknown) ↔ (session_of id self.old.state.sessions ≡ None) }
         ensures bytes { HasBytes result self.new.reply }
         ensures state { self.new.state ≡ self.old.state }
     {
-        self.reply.clear();
         let Some(session) = session_of(&self.sessions, id) else {
+            self.reply.clear();
             return Err(TileError::Unknown);
         };
-        let publications = up_to(&self.publications, session.version);
-        if !are_reaching(publications, tile.cell) {
-            return Ok(Reply::Missing);
-        }
-        let post = newest_post(publications, tile.cell);
-        match put_file(&mut self.reply, post) {
-            Ok(()) => Ok(Reply::Bytes(self.reply.len() as u32)),
+        let sources = self.publications.up_to(session.version);
+        match reply_with(sources, tile, &mut self.frame, &mut self.reply) {
+            Ok(reply) => Ok(reply),
             Err(_) => Err(TileError::Memory),
         }
     }
@@ -223,28 +280,4 @@ impl Engine {
     {
         &self.reply
     }
-}
-
-/// The geocell at a latitude and a longitude of the zone where geocells are one degree wide.
-fn geocell(lat: i8, lon: i16) -> Geocell
-    requires south { negsuc 49 ≤ℤ lat }
-    requires north { lat ≤ℤ pos 49 }
-    requires west { negsuc 179 ≤ℤ lon }
-    requires east { lon ≤ℤ pos 179 }
-    ensures lat { result.lat ≡ lat }
-    ensures lon { result.lon ≡ lon }
-{
-    Geocell { lat, lon }
-}
-
-/// The open session of this number.
-fn session_of(sessions: &[Session], id: u32) -> Option<Session>
-    ensures { result ≡ session_of id sessions.now }
-{
-    for session in sessions {
-        if session.id == id {
-            return Some(*session);
-        }
-    }
-    None
 }

@@ -1,4 +1,5 @@
-use cdb_model::Source;
+use cdb_source::Source;
+use cdb_tiff_read::TiffError;
 use thiserror::Error;
 
 /// Why no source can be submitted now.
@@ -10,14 +11,32 @@ pub enum ReadyError {
     Full,
 }
 
-/// Why no source was made of an order.
+/// Why no source was made of an order with posts.
 #[derive(Clone, Copy, Debug, PartialEq, Eq)]
 pub enum InlineError {
     Memory,
+    /// The order spells no source.
+    Range,
+}
+
+/// Why no source was made of an order with a file.
+#[derive(Clone, Copy, Debug, PartialEq, Eq)]
+pub enum LoadError {
+    Memory,
+    /// A call of the shelf failed.
+    Shelf,
+    /// There is no such file.
+    Absent,
+    /// The file has `size` bytes, more than 67,108,864.
+    Big { size: u64 },
+    /// The file isn't a TIFF file that is read.
+    Input(TiffError),
+    /// The order spells no source with this file.
+    Range,
 }
 
 /// Memory for one more source was wanting: the source comes back.
-#[derive(Clone, Copy, Debug, PartialEq, Eq)]
+#[derive(Debug, Drop)]
 pub struct SubmitRefused {
     pub source: Source,
 }
@@ -29,6 +48,8 @@ pub enum PublishError {
     Busy,
     #[error("no source is pending")]
     Nothing,
+    #[error("the load of the pending sources is {count}, above 16384")]
+    Large { count: u128 },
     #[error("out of memory")]
     Memory,
 }
@@ -49,6 +70,10 @@ pub enum SessionError {
     /// 64 sessions are open.
     Many,
 }
+
+/// No session of that number is open.
+#[derive(Clone, Copy, Debug, PartialEq, Eq)]
+pub struct Unknown;
 
 /// Why a request for a tile has no reply.
 #[derive(Clone, Copy, Debug, PartialEq, Eq)]

@@ -4,18 +4,26 @@
 
 mod engine;
 mod errors;
-mod laws;
+mod file;
+mod head_words;
+mod image_rows;
+mod posts;
 mod publications;
+mod raster;
 mod reply;
+mod sessions;
+mod source_file;
 mod sources;
 #[cfg(test)]
 mod tests;
 mod tile_file;
+mod touched_files;
 
-pub use cdb_model::{InlineWords as InlineOrder, Kind, Source};
+pub use cdb_model::{InlineWords as InlineOrder, LoadWords as LoadOrder};
+pub use cdb_source::{Kind, Source};
 pub use engine::Engine;
 pub use errors::{
-    AdvanceError, InlineError, PublishError, ReadyError, SessionError, SubmitRefused, TileError,
+    AdvanceError, InlineError, LoadError, PublishError, ReadyError, SessionError, SubmitRefused,
+    TileError, Unknown,
 };
-pub use laws::{cells_are_distinct, value_is_newest};
 pub use reply::{Begun, Opened, Reply};

@@ -1,11 +1,8 @@
-ghost use Rattle.std.specs.Prelude.{◌≡◌, ◌+◌, ◌≤◌, List, [], ◌∷◌, ◌++◌, length, if◌then◌else◌, IfErr, OnOk, OnErr};
-ghost use Rattle.std.specs.List.{list_any};
-ghost use Rattle.cdb_model.specs.declared.source.Source as model;
-ghost use Rattle.cdb_model.specs.Machine.{is_at, is_reached, cells_of};
-ghost use Rattle.cdb_engine.specs.Values.{post_from, newer_post};
+ghost use Rattle.std.specs.Prelude.{◌≡◌, ◌+◌, List, [], ◌∷◌, ◌++◌, length, IfOk, IfErr, OnOk, OnErr};
+ghost use Rattle.cdb_source.specs.declared.source.Source as model;
+ghost use Rattle.cdb_model.specs.Machine.{heads_of};
 
-use cdb_grid::Geocell;
-use cdb_model::Source;
+use cdb_source::{Source, SourceHead};
 use std::alloc::{AllocError, AllocFailed, Global};
 use std::marker::Model;
 use std::mem;
@@ -56,60 +53,19 @@ impl Sources {
         }
     }
 
-    /// Whether a source stands at the geocell.
-    pub fn reach(&self, cell: Geocell) -> bool
-        ensures { result ≡ is_reached self.now cell }
+    /// Moves all sources behind others, in their order.
+    pub fn move_to(&mut self, others: &mut Vec<Source>) -> Result<(), AllocError>
+        ensures ok { OnOk result (others.new.items ≡ others.old.items ++ self.old) }
+        ensures err { OnErr result (self.new ≡ self.old) }
+        ensures others { OnErr result (others.new.items ≡ others.old.items) }
     {
-        is_any_at(&self.items, cell)
+        others.append(&mut self.items)
     }
 
-    /// The post of the newest source at the geocell that has a value, and `older` where there is none.
-    pub fn newest_post(&self, cell: Geocell, older: i16) -> i16
-        ensures { result ≡ post_from self.now cell older }
+    /// The heads of the sources, in their order.
+    pub fn heads(&self, alloc: Global) -> Result<Vec<SourceHead>, AllocError>
+        ensures { IfOk result (λ heads. heads.items ≡ heads_of self.now) }
     {
-        let mut post = older;
-        for source in &self.items {
-            post = post_or(source, cell, post);
-        }
-        post
+        self.items.iter().map(|source| source.head).collect(alloc)
     }
-
-    /// How many geocells have a source.
-    pub fn count_cells(&self) -> usize
-        ensures value { result ≡ length (cells_of self.now) }
-        ensures most { result ≤ length self.now }
-    {
-        let mut count = 0;
-        for (i, source) in self.items.iter().enumerate() {
-            let newer = self.items.as_slice().split_at(i + 1).1;
-            count += count_last(source.cell, newer);
-        }
-        count
-    }
-}
-
-/// The post of a source that stands at the geocell and has a value, and else `older`.
-fn post_or(source: &Source, cell: Geocell, older: i16) -> i16
-    ensures { result ≡ newer_post source.now cell older }
-{
-    if source.cell == cell && source.post != i16::MIN {
-        source.post
-    } else {
-        older
-    }
-}
-
-/// 1 for a geocell that no newer source stands at, and else 0.
-fn count_last(cell: Geocell, newer: &[Source]) -> usize
-    ensures value { result ≡ (if list_any (is_at cell) newer.now then 0 else 1) }
-    ensures most { result ≤ 1 }
-{
-    if is_any_at(newer, cell) { 0 } else { 1 }
-}
-
-/// Whether a source stands at the geocell.
-fn is_any_at(sources: &[Source], cell: Geocell) -> bool
-    ensures { result ≡ list_any (is_at cell) sources.now }
-{
-    sources.iter().any(|source| source.cell == cell)
 }
