@@ -1,78 +1,108 @@
 -- What was written of a run acknowledges complete publications alone.
-use Rattle.std.proofs.Common.{◌≡◌, ◌+◌, ◌≤◌, Bool, true, false, cond, List, [], ◌∷◌, ◌++◌, length, take, drop, Option, None, Some, nat_lt, nat_eq, ap, sym, ◌∙◌, subst, arith, length-append}
+use Rattle.std.proofs.Common.{◌≡◌, ◌+◌, ◌≤◌, Bool, true, false, cond, List, [], ◌∷◌, ◌++◌, length, take, drop, nat_eq, ap, sym, ◌∙◌, arith, length-append, ◌⊎◌, inl, inr, refl, ℕ}
 use Rattle.std.specs.Prelude.{option_to_list}
 use Rattle.std.specs.List.{starts_with}
 use Rattle.std.proofs.lemmas.List.{take-append-drop, take-append-le}
-use Rattle.cdb_model.specs.declared.session.Session.{Session}
-use Rattle.cdb_model.specs.declared.source.Source.{Source}
 use Rattle.cdb_grid.specs.declared.tile.Tile.{Tile}
 use Rattle.cdb_model.specs.Text.{Text}
+use Rattle.cdb_model.specs.Maps.{Content}
+use Rattle.cdb_model.specs.Grammar.{InlineSource, FileSource}
 use Rattle.cdb_model.specs.Commands.{Command}
 use Rattle.cdb_model.specs.Machine as machine
-use Rattle.cdb_model.specs.Machine.{State, Answer, Event, Step, next, give_next, begin_next, finish_next, connect_next, ask_next, session_of, is_reached, sources_up_to, tile_file, reply_of}
+use Rattle.cdb_model.specs.Machine.{State, Answer, Event, Step, Gives, Loads, Begins, Finishes, Connects, Asks, Disconnects, Tells, IsLong, IsSyntax, IsName, IsNotBuilt}
 use Rattle.cdb_model.specs.Run.{Run, text_of}
-use Rattle.cdb_model.specs.Acknowledged.{begun_by, completes, completed, whole_answers, AcknowledgedStand}
+use Rattle.cdb_model.specs.Acknowledged.{begun_by, completes, completed, whole_answers, HasAnything, AcknowledgedStand}
 
--- an answer and a state: as many more publications as the answer completes
-record Grows (old : State) (r : Answer × State) : Type 0 where
-  by : length r.1.list ≡ length old.list + completes r.0
+-- a state whose publications are those of another, and one that has one more
+same : (old new : State) → new ≡ old → length new.list ≡ length old.list + 0
+same old new e = ap (λ (s : State). length s.list) e ∙ omega arith
 
-give_grows : (s : State) (x : Source) (going : Option (List Source)) → Grows s (give_next s x going)
-give_grows s x (Some going) = record { by = omega arith }
-give_grows s x None = choice (nat_lt (length s.pending) 64)
-  where
-    choice : (b : Bool) → Grows s (cond b (machine.source (length s.pending + 1), record s { pending = s.pending ++ x ∷ [] }) (machine.not_built, s))
-    choice true = record { by = omega arith }
-    choice false = record { by = omega arith }
+gives_grow : (old new : State) (w : InlineSource) (answer : Answer) → Gives old w answer new → length new.list ≡ length old.list + completes answer
+gives_grow old new w (machine.source n) g = ap (λ (s : State). length s.list) g.next ∙ omega arith
+gives_grow old new w machine.busy g = same old new g.1
+gives_grow old new w machine.full g = same old new g.1
+gives_grow old new w machine.range g = same old new g.2
+gives_grow old new w machine.memory g = same old new g.1
+gives_grow old new w _ g = absurd g
 
-begin_grows : (s : State) (going : Option (List Source)) (pending : List Source) → Grows s (begin_next s going pending)
-begin_grows s (Some going) pending = record { by = omega arith }
-begin_grows s None [] = record { by = omega arith }
-begin_grows s None (x ∷ xs) = record { by = omega arith }
+loads_grow : (old new : State) (w : FileSource) (content : Content) (answer : Answer) → Loads old w content answer new → length new.list ≡ length old.list + completes answer
+loads_grow old new w content (machine.source n) g = ap (λ (s : State). length s.list) g.gains.next ∙ omega arith
+loads_grow old new w content machine.busy g = same old new g.1
+loads_grow old new w content machine.full g = same old new g.1
+loads_grow old new w content machine.shelf g = same old new g.1
+loads_grow old new w content machine.absent g = same old new g.2
+loads_grow old new w content machine.too_big g = same old new g.2
+loads_grow old new w content (machine.input cause) g = same old new g.2
+loads_grow old new w content machine.range g = same old new g.2
+loads_grow old new w content machine.memory g = same old new g.1
+loads_grow old new w content _ g = absurd g
 
-finish_grows : (s : State) (going : Option (List Source)) → Grows s (finish_next s going)
-finish_grows s None = record { by = omega arith }
-finish_grows s (Some sources) = record { by = length-append s.list (sources ∷ []) }
+begins_grow : (old new : State) (answer : Answer) → Begins old answer new → length new.list ≡ length old.list + completes answer
+begins_grow old new (machine.begun version files) g = ap (λ (s : State). length s.list) g.next ∙ omega arith
+begins_grow old new machine.busy g = same old new g.1
+begins_grow old new machine.nothing g = same old new g.2
+begins_grow old new (machine.large count) g = same old new g.3
+begins_grow old new machine.memory g = same old new g.1
+begins_grow old new _ g = absurd g
 
-connect_grows : (s : State) → Grows s (connect_next s)
-connect_grows s = choice (nat_lt (length s.sessions) 64)
-  where
-    choice : (b : Bool) → Grows s (cond b (machine.session (s.opened + 1) (length s.list), record s { sessions = s.sessions ++ record { id = s.opened + 1; version = length s.list } ∷ []; opened = s.opened + 1 }) (machine.not_built, s))
-    choice true = record { by = omega arith }
-    choice false = record { by = omega arith }
+finishes_grow : (old new : State) (answer : Answer) → Finishes old answer new → length new.list ≡ length old.list + completes answer
+finishes_grow old new (machine.published version) g = ap (λ (s : State). length s.list) g.next ∙ length-append old.list (g.sources ∷ [])
+finishes_grow old new machine.nothing g = same old new g.1
+finishes_grow old new machine.memory g = same old new g.1
+finishes_grow old new _ g = absurd g
 
-ask_grows : (s : State) (x : Option Session) (t : Tile) → Grows s (ask_next s x t)
-ask_grows s None t = record { by = omega arith }
-ask_grows s (Some x) t = choice (is_reached (sources_up_to x.version s.list) t.cell)
-  where
-    choice : (b : Bool) → Grows s (cond b (machine.tile (tile_file (sources_up_to x.version s.list) t.cell)) machine.missing, s)
-    choice true = record { by = omega arith }
-    choice false = record { by = omega arith }
+connects_grow : (old new : State) (answer : Answer) → Connects old answer new → length new.list ≡ length old.list + completes answer
+connects_grow old new (machine.session id version) g = ap (λ (s : State). length s.list) g.next ∙ omega arith
+connects_grow old new machine.many g = same old new g.1
+connects_grow old new machine.memory g = same old new g.1
+connects_grow old new _ g = absurd g
 
-next_grows : (s : State) (event : Event) → Grows s (next s event)
-next_grows s (machine.give x) = give_grows s x s.going
-next_grows s machine.begin = begin_grows s s.going s.pending
-next_grows s machine.finish = finish_grows s s.going
-next_grows s machine.connect = connect_grows s
-next_grows s (machine.ask id t) = ask_grows s (session_of id s.sessions) t
-next_grows s machine.unbuilt = record { by = omega arith }
+asks_grow : (old new : State) (id : ℕ) (t : Tile) (answer : Answer) → Asks old id t answer new → length new.list ≡ length old.list + completes answer
+asks_grow old new id t (machine.tile bytes) g = same old new g.1
+asks_grow old new id t machine.missing g = same old new g.1
+asks_grow old new id t machine.unknown g = same old new g.1
+asks_grow old new id t machine.memory g = same old new g.1
+asks_grow old new id t _ g = absurd g
 
-known : (old new : State) (event : Event) (answer : Answer) → next old event ≡ (answer, new) → length new.list ≡ length old.list + completes answer
-known old new event answer e = (subst (Grows old) e (next_grows old event)).by
+disconnects_grow : (old new : State) (id : ℕ) (answer : Answer) → Disconnects old id answer new → length new.list ≡ length old.list + completes answer
+disconnects_grow old new id machine.closed g = ap (λ (s : State). length s.list) g.1 ∙ omega arith
+disconnects_grow old new id machine.unknown g = same old new g.1
+disconnects_grow old new id _ g = absurd g
+
+tells_grow : (old new : State) (answer : Answer) → Tells old answer new → length new.list ≡ length old.list + completes answer
+tells_grow old new (machine.versions count) g = same old new g.1
+tells_grow old new _ g = absurd g
+
+-- an answer that completes no publication
+none_complete : (answer : Answer) → IsLong answer ⊎ (IsSyntax answer ⊎ (IsNotBuilt answer ⊎ ((place : ℕ) × IsName place answer))) → completes answer ≡ 0
+none_complete machine.long which = refl
+none_complete machine.syntax which = refl
+none_complete (machine.name at) which = refl
+none_complete machine.not_built which = refl
+none_complete (machine.published version) (inl l) = absurd l
+none_complete (machine.published version) (inr (inl l)) = absurd l
+none_complete (machine.published version) (inr (inr (inl l))) = absurd l
+none_complete (machine.published version) (inr (inr (inr l))) = absurd l.1
+none_complete _ which = refl
+
+left : (old new : State) (answer : Answer) → completes answer ≡ 0 → new ≡ old → length new.list ≡ length old.list + completes answer
+left old new answer none e = let s = same old new e in omega (arith, none, s)
 
 step_grows : (old new : State) (event : Event) (answer : Answer) → Step old event answer new → length new.list ≡ length old.list + completes answer
-step_grows old new event (machine.source n) step = known old new event (machine.source n) step
-step_grows old new event (machine.begun v f) step = known old new event (machine.begun v f) step
-step_grows old new event (machine.published v) step = known old new event (machine.published v) step
-step_grows old new event (machine.session i v) step = known old new event (machine.session i v) step
-step_grows old new event machine.missing step = known old new event machine.missing step
-step_grows old new event (machine.tile bytes) step = known old new event (machine.tile bytes) step
-step_grows old new event machine.not_built step = known old new event machine.not_built step
-step_grows old new event machine.busy step = known old new event machine.busy step
-step_grows old new event machine.nothing step = known old new event machine.nothing step
-step_grows old new event machine.memory step = ap (λ (s : State). length s.list) step.1 ∙ omega arith
+step_grows old new (machine.give w) answer step = gives_grow old new w answer step
+step_grows old new (machine.load w content) answer step = loads_grow old new w content answer step
+step_grows old new machine.begin answer step = begins_grow old new answer step
+step_grows old new machine.finish answer step = finishes_grow old new answer step
+step_grows old new machine.connect answer step = connects_grow old new answer step
+step_grows old new (machine.ask id t) answer step = asks_grow old new id t answer step
+step_grows old new (machine.disconnect id) answer step = disconnects_grow old new id answer step
+step_grows old new machine.tell answer step = tells_grow old new answer step
+step_grows old new machine.overlong answer step = left old new answer (none_complete answer (inl step.0)) step.1
+step_grows old new machine.unreadable answer step = left old new answer (none_complete answer (inr (inl step.0))) step.1
+step_grows old new (machine.misnamed place) answer step = left old new answer (none_complete answer (inr (inr (inr (place, step.0))))) step.1
+step_grows old new machine.unbuilt answer step = left old new answer (none_complete answer (inr (inr (inl step.0)))) step.1
 
-run_grows : (old new : State) (commands : List Command) (answers : List Answer) → Run old commands answers new → length new.list ≡ length old.list + completed answers
+run_grows : (old new : State) (commands : List Command) (answers : List Answer) → Run HasAnything old commands answers new → length new.list ≡ length old.list + completed answers
 run_grows old new [] [] run = ap (λ (s : State). length s.list) run ∙ omega arith
 run_grows old new [] (a ∷ answers) run = absurd run
 run_grows old new (c ∷ commands) [] run = absurd run

@@ -1,28 +1,30 @@
 -- How a run ends.
-use Rattle.std.proofs.Common.{◌≡◌, ◌≢◌, ℕ, ◌+◌, ◌<◌, ◌^◌, List, [], ◌∷◌, ◌++◌, length, Option, None, Some, IfSome, inl, inr, refl, ap, sym, ◌∙◌, append_assoc, append-nil, subst, arith, length-append}
+use Rattle.std.proofs.Common.{◌≡◌, ◌≢◌, ℕ, ◌+◌, ◌<◌, ◌≤◌, ◌^◌, List, [], ◌∷◌, ◌++◌, length, Option, None, Some, IfSome, inl, inr, refl, ap, sym, ◌∙◌, append_assoc, append-nil, subst, arith, length-append}
 use Rattle.std.specs.Io.KnownBytes.{Appends, Keeps, Consumes, IsAtEnd}
 use Rattle.std.proofs.KnownBytes.{Appends-nil, Appends-trans, Consumes-nil, Consumes-trans, Consumes-kept}
 use Rattle.cdb_model.specs.Text.{Text}
+use Rattle.cdb_model.specs.Maps.{FileMap}
 use Rattle.cdb_model.specs.Machine.{State, start}
 use Rattle.cdb_model.specs.Run.{texts_of}
 use Rattle.cdb_front.specs.Devices.{WritesPart}
 use Rattle.cdb_front.specs.Progress.{Sofar, Answered, IsQuit, Broken, UpTo}
 use Rattle.cdb_front.specs.Reading.{Reading, Stops}
-use Rattle.cdb_front.specs.Outcome.{Outcome, status_line, Aims, Writes}
+use Rattle.cdb_front.specs.Outcome.{Outcome, status_line, Aims, Writes, Breaks, EndsWith, is_whole, is_part}
 use Rattle.cdb_front.specs.declared.status.Status.{Status}
 use Rattle.cdb_front.specs.declared.status.Status.TheVariants.{Done, Memory, InputFault, OutputFault, TooLong}
 use Rattle.cdb_front.proofs.Progress.{sofar_begins}
 
-pub reading_begins : (left written : Option (List ℕ)) → Reading left left written written start (Some []) 0
-reading_begins left written = record { read = []; input = Consumes-nil left; sofar = sofar_begins written; count = refl }
+pub reading_begins : (tells : Type 0) (files : FileMap) (before : ℕ) (left written : Option (List ℕ)) → Reading tells files before before left left written written start (Some []) 0
+reading_begins tells files before left written = record { read = []; input = Consumes-nil left; sofar = sofar_begins tells files before written; count = refl }
 
 -- memory was refused before anything was read
-pub stops_memory : (left written : Option (List ℕ)) → Stops left left written written Memory
-stops_memory left written =
+pub stops_memory : (tells : Type 0) (files : FileMap) (before : ℕ) (left written : Option (List ℕ)) → Stops tells files before before left left written written Memory
+stops_memory tells files before left written =
     record {
       read = [];
       unread = [];
       taken = Consumes-nil left;
+      few = omega arith;
       lines = [];
       rest = [];
       cut = record { joined = refl; whole = tt; open_end = tt };
@@ -34,6 +36,7 @@ stops_memory left written =
       answers = [];
       state = start;
       run = refl;
+      counted = λ short. omega arith;
       wrote = [];
       appended = Appends-nil written;
       writes = refl;
@@ -41,13 +44,14 @@ stops_memory left written =
     }
 
 -- a read failed, and took nothing
-pub stops_input_fault : (left left' left'' written written' : Option (List ℕ)) (state : State) (kept : Option (List ℕ)) (taken : ℕ)
-    → Reading left left' written written' state kept taken → Keeps left' left'' → taken < 2 ^ 32 → Stops left left'' written written' InputFault
-stops_input_fault left left' left'' written written' state kept taken r keeps few =
+pub stops_input_fault : (tells : Type 0) (files : FileMap) (before faults : ℕ) (left left' left'' written written' : Option (List ℕ)) (state : State) (kept : Option (List ℕ)) (taken : ℕ)
+    → Reading tells files before faults left left' written written' state kept taken → Keeps left' left'' → taken < 2 ^ 32 → Stops tells files before faults left left'' written written' InputFault
+stops_input_fault tells files before faults left left' left'' written written' state kept taken r keeps few =
     record {
       read = r.read;
       unread = [];
       taken = subst (Consumes left left'') (sym (append-nil r.read)) (Consumes-kept left left' left'' r.read r.input keeps);
+      few = omega (arith, few, r.count, ap length (append-nil r.read));
       lines = r.sofar.lines;
       rest = r.sofar.rest;
       cut = r.sofar.cut;
@@ -59,6 +63,7 @@ stops_input_fault left left' left'' written written' state kept taken r keeps fe
       answers = r.sofar.answers;
       state = state;
       run = r.sofar.run;
+      counted = r.sofar.counted;
       wrote = texts_of r.sofar.answers;
       appended = r.sofar.appended;
       writes = refl;
@@ -66,13 +71,14 @@ stops_input_fault left left' left'' written written' state kept taken r keeps fe
     }
 
 -- the bytes that may be taken were taken
-pub stops_too_long : (left left' written written' : Option (List ℕ)) (state : State) (kept : Option (List ℕ)) (taken : ℕ)
-    → Reading left left' written written' state kept taken → taken ≡ 2 ^ 32 → Stops left left' written written' TooLong
-stops_too_long left left' written written' state kept taken r all =
+pub stops_too_long : (tells : Type 0) (files : FileMap) (before faults : ℕ) (left left' written written' : Option (List ℕ)) (state : State) (kept : Option (List ℕ)) (taken : ℕ)
+    → Reading tells files before faults left left' written written' state kept taken → taken ≡ 2 ^ 32 → Stops tells files before faults left left' written written' TooLong
+stops_too_long tells files before faults left left' written written' state kept taken r all =
     record {
       read = r.read;
       unread = [];
       taken = subst (Consumes left left') (sym (append-nil r.read)) r.input;
+      few = omega (arith, all, r.count, ap length (append-nil r.read));
       lines = r.sofar.lines;
       rest = r.sofar.rest;
       cut = r.sofar.cut;
@@ -84,6 +90,7 @@ stops_too_long left left' written written' state kept taken r all =
       answers = r.sofar.answers;
       state = state;
       run = r.sofar.run;
+      counted = r.sofar.counted;
       wrote = texts_of r.sofar.answers;
       appended = r.sofar.appended;
       writes = refl;
@@ -91,15 +98,19 @@ stops_too_long left left' written written' state kept taken r all =
     }
 
 -- `quit` was among the bytes of a piece
-pub stops_quit : (left left' left'' written written' written'' : Option (List ℕ)) (state next : State) (kept : Option (List ℕ)) (taken : ℕ) (piece : Text)
-    → (r : Reading left left' written written' state kept taken) → Consumes left' left'' piece
-    → UpTo piece (λ front. Answered IsQuit (r.read ++ front) written written'' next) → Stops left left'' written written'' Done
-stops_quit left left' left'' written written' written'' state next kept taken piece r more up =
+pub stops_quit : (tells : Type 0) (files : FileMap) (before faults after : ℕ) (left left' left'' written written' written'' : Option (List ℕ)) (state next : State) (kept : Option (List ℕ)) (taken : ℕ) (piece : Text)
+    → (r : Reading tells files before faults left left' written written' state kept taken) → Consumes left' left'' piece → taken + length piece ≤ 2 ^ 32
+    → UpTo piece (λ front. Answered tells files before IsQuit (r.read ++ front) written written'' after next) → Stops tells files before after left left'' written written'' Done
+stops_quit tells files before faults after left left' left'' written written' written'' state next kept taken piece r more room up =
     let a = up.reached in
+    let few : length ((r.read ++ up.front) ++ 10 ∷ up.back) ≤ 2 ^ 32 =
+    omega (arith, room, r.count, ap length up.joined, length-append (r.read ++ up.front) (10 ∷ up.back), length-append r.read up.front, length-append up.front (10 ∷ up.back)) in
+    let fewer : length (r.read ++ up.front) < 2 ^ 32 = omega (arith, few, length-append (r.read ++ up.front) (10 ∷ up.back)) in
     record {
       read = r.read ++ up.front;
-      unread = up.back;
-      taken = subst (Consumes left left'') (ap (λ l. r.read ++ l) up.joined ∙ sym (append_assoc r.read up.front up.back)) (Consumes-trans left left' left'' r.read piece r.input more);
+      unread = 10 ∷ up.back;
+      taken = subst (Consumes left left'') (ap (λ l. r.read ++ l) up.joined ∙ sym (append_assoc r.read up.front (10 ∷ up.back))) (Consumes-trans left left' left'' r.read piece r.input more);
+      few = few;
       lines = a.lines;
       rest = a.rest;
       cut = a.cut;
@@ -111,22 +122,27 @@ stops_quit left left' left'' written written' written'' state next kept taken pi
       answers = a.answers;
       state = next;
       run = a.run;
+      counted = a.counted;
       wrote = texts_of a.answers;
       appended = a.appended;
       writes = refl;
-      ends = inl a.last;
+      ends = (fewer, inr (a.last, (up.back, refl)));
     }
 
 -- an answer to a line of a piece wasn't written whole
-pub stops_broken : (left left' left'' written written' written'' : Option (List ℕ)) (state : State) (kept : Option (List ℕ)) (taken : ℕ) (piece : Text)
-    → (r : Reading left left' written written' state kept taken) → Consumes left' left'' piece
-    → UpTo piece (λ front. Broken (r.read ++ front) written written'') → Stops left left'' written written'' OutputFault
-stops_broken left left' left'' written written' written'' state kept taken piece r more up =
+pub stops_broken : (tells : Type 0) (files : FileMap) (before faults after : ℕ) (left left' left'' written written' written'' : Option (List ℕ)) (state : State) (kept : Option (List ℕ)) (taken : ℕ) (piece : Text)
+    → (r : Reading tells files before faults left left' written written' state kept taken) → Consumes left' left'' piece → taken + length piece ≤ 2 ^ 32
+    → UpTo piece (λ front. Broken tells files before (r.read ++ front) written written'' after) → Stops tells files before after left left'' written written'' OutputFault
+stops_broken tells files before faults after left left' left'' written written' written'' state kept taken piece r more room up =
     let b = up.reached in
+    let few : length ((r.read ++ up.front) ++ 10 ∷ up.back) ≤ 2 ^ 32 =
+    omega (arith, room, r.count, ap length up.joined, length-append (r.read ++ up.front) (10 ∷ up.back), length-append r.read up.front, length-append up.front (10 ∷ up.back)) in
+    let fewer : length (r.read ++ up.front) < 2 ^ 32 = omega (arith, few, length-append (r.read ++ up.front) (10 ∷ up.back)) in
     record {
       read = r.read ++ up.front;
-      unread = up.back;
-      taken = subst (Consumes left left'') (ap (λ l. r.read ++ l) up.joined ∙ sym (append_assoc r.read up.front up.back)) (Consumes-trans left left' left'' r.read piece r.input more);
+      unread = 10 ∷ up.back;
+      taken = subst (Consumes left left'') (ap (λ l. r.read ++ l) up.joined ∙ sym (append_assoc r.read up.front (10 ∷ up.back))) (Consumes-trans left left' left'' r.read piece r.input more);
+      few = few;
       lines = b.lines;
       rest = b.rest;
       cut = b.cut;
@@ -138,17 +154,18 @@ stops_broken left left' left'' written written' written'' state kept taken piece
       answers = b.answers;
       state = b.state;
       run = b.run;
+      counted = b.counted;
       wrote = b.written.part;
       appended = b.written.appended;
       writes = (b.written.rest, b.written.joined, b.written.short);
-      ends = tt;
+      ends = (fewer, inr (up.back, refl));
     }
 
 -- the piece was taken whole
-pub reading_more : (left left' left'' written written' written'' : Option (List ℕ)) (state next : State) (kept new : Option (List ℕ)) (taken count : ℕ) (piece : Text)
-    → (r : Reading left left' written written' state kept taken) → Consumes left' left'' piece → length piece ≡ count
-    → Sofar (r.read ++ piece) written written'' next new → Reading left left'' written written'' next new (taken + count)
-reading_more left left' left'' written written' written'' state next kept new taken count piece r more long s =
+pub reading_more : (tells : Type 0) (files : FileMap) (before faults after : ℕ) (left left' left'' written written' written'' : Option (List ℕ)) (state next : State) (kept new : Option (List ℕ)) (taken count : ℕ) (piece : Text)
+    → (r : Reading tells files before faults left left' written written' state kept taken) → Consumes left' left'' piece → length piece ≡ count
+    → Sofar tells files before (r.read ++ piece) written written'' after next new → Reading tells files before after left left'' written written'' next new (taken + count)
+reading_more tells files before faults after left left' left'' written written' written'' state next kept new taken count piece r more long s =
     record {
       read = r.read ++ piece;
       input = Consumes-trans left left' left'' r.read piece r.input more;
@@ -157,14 +174,15 @@ reading_more left left' left'' written written' written'' state next kept new ta
     }
 
 -- the last line, which no line feed ends, was answered at the end of the input
-pub stops_done : (P : Text → Type 0) (left left' left'' written written' written'' : Option (List ℕ)) (state next : State) (kept : Option (List ℕ)) (taken : ℕ)
-    → (r : Reading left left' written written' state kept taken) → Consumes left' left'' [] → IsAtEnd left''
-    → Answered P r.read written written'' next → Stops left left'' written written'' Done
-stops_done P left left' left'' written written' written'' state next kept taken r more end a =
+pub stops_done : (tells : Type 0) (files : FileMap) (before faults after : ℕ) (P : Text → Type 0) (left left' left'' written written' written'' : Option (List ℕ)) (state next : State) (kept : Option (List ℕ)) (taken : ℕ)
+    → (r : Reading tells files before faults left left' written written' state kept taken) → Consumes left' left'' [] → taken < 2 ^ 32 → IsAtEnd left''
+    → Answered tells files before P r.read written written'' after next → Stops tells files before after left left'' written written'' Done
+stops_done tells files before faults after P left left' left'' written written' written'' state next kept taken r more room end a =
     record {
       read = r.read;
       unread = [];
       taken = Consumes-trans left left' left'' r.read [] r.input more;
+      few = omega (arith, room, r.count, ap length (append-nil r.read));
       lines = a.lines;
       rest = a.rest;
       cut = a.cut;
@@ -176,20 +194,22 @@ stops_done P left left' left'' written written' written'' state next kept taken 
       answers = a.answers;
       state = next;
       run = a.run;
+      counted = a.counted;
       wrote = texts_of a.answers;
       appended = a.appended;
       writes = refl;
-      ends = inr (refl, end);
+      ends = (subst (λ n. n < 2 ^ 32) r.count room, inl (refl, end));
     }
 
-pub stops_broken_at_end : (left left' left'' written written' written'' : Option (List ℕ)) (state : State) (kept : Option (List ℕ)) (taken : ℕ)
-    → (r : Reading left left' written written' state kept taken) → Consumes left' left'' []
-    → Broken r.read written written'' → Stops left left'' written written'' OutputFault
-stops_broken_at_end left left' left'' written written' written'' state kept taken r more b =
+pub stops_broken_at_end : (tells : Type 0) (files : FileMap) (before faults after : ℕ) (left left' left'' written written' written'' : Option (List ℕ)) (state : State) (kept : Option (List ℕ)) (taken : ℕ)
+    → (r : Reading tells files before faults left left' written written' state kept taken) → Consumes left' left'' [] → taken < 2 ^ 32 → IsAtEnd left''
+    → Broken tells files before r.read written written'' after → Stops tells files before after left left'' written written'' OutputFault
+stops_broken_at_end tells files before faults after left left' left'' written written' written'' state kept taken r more room end b =
     record {
       read = r.read;
       unread = [];
       taken = Consumes-trans left left' left'' r.read [] r.input more;
+      few = omega (arith, room, r.count, ap length (append-nil r.read));
       lines = b.lines;
       rest = b.rest;
       cut = b.cut;
@@ -201,10 +221,11 @@ stops_broken_at_end left left' left'' written written' written'' state kept take
       answers = b.answers;
       state = b.state;
       run = b.run;
+      counted = b.counted;
       wrote = b.written.part;
       appended = b.written.appended;
       writes = (b.written.rest, b.written.joined, b.written.short);
-      ends = tt;
+      ends = (subst (λ n. n < 2 ^ 32) r.count room, inl (refl, end));
     }
 
 -- ---- the line of a status
@@ -241,13 +262,14 @@ with_line OutputFault aim text wrote a w = (
 with_line TooLong aim text wrote a w = ap (λ l. wrote ++ l) (ap status_line (sym a)) ∙ ap (λ l. l ++ status_line aim) w
 
 -- the line of the status was written
-pub outcome_ok : (left left' written written' written'' : Option (List ℕ)) (status : Status)
-    → Stops left left' written written' status → Appends written' written'' (status_line status) → Outcome left left' written written'' status
-outcome_ok left left' written written' written'' status s line =
+pub outcome_ok : (tells : Type 0) (files : FileMap) (before faults : ℕ) (left left' written written' written'' : Option (List ℕ)) (status : Status)
+    → Stops tells files before faults left left' written written' status → Appends written' written'' (status_line status) → Outcome tells files before faults left left' written written'' status
+outcome_ok tells files before faults left left' written written' written'' status s line =
     record {
       read = s.read;
       unread = s.unread;
       taken = s.taken;
+      few = s.few;
       lines = s.lines;
       rest = s.rest;
       cut = s.cut;
@@ -259,6 +281,7 @@ outcome_ok left left' written written' written'' status s line =
       answers = s.answers;
       state = s.state;
       run = s.run;
+      counted = s.counted;
       wrote = s.wrote ++ status_line status;
       appended = Appends-trans written written' written'' s.wrote (status_line status) s.appended line;
       writes = with_line status s.aim (texts_of s.answers) s.wrote s.aims s.writes;
@@ -266,15 +289,16 @@ outcome_ok left left' written written' written'' status s line =
     }
 
 -- the line of the status wasn't written whole
-pub outcome_fault : (left left' written written' written'' : Option (List ℕ)) (status : Status) → status ≢ OutputFault
-    → Stops left left' written written' status → WritesPart written' written'' (status_line status) → Outcome left left' written written'' OutputFault
-outcome_fault left left' written written' written'' status other s part =
+pub outcome_fault : (tells : Type 0) (files : FileMap) (before faults : ℕ) (left left' written written' written'' : Option (List ℕ)) (status : Status) → status ≢ OutputFault
+    → (s : Stops tells files before faults left left' written written' status) → Breaks s.aim left' s.read s.unread s.rest → WritesPart written' written'' (status_line status) → Outcome tells files before faults left left' written written'' OutputFault
+outcome_fault tells files before faults left left' written written' written'' status other s breaks part =
     let e = aimed status s.aim other s.aims in
     let w = whole status (texts_of s.answers) s.wrote other s.writes in
     record {
       read = s.read;
       unread = s.unread;
       taken = s.taken;
+      few = s.few;
       lines = s.lines;
       rest = s.rest;
       cut = s.cut;
@@ -286,6 +310,7 @@ outcome_fault left left' written written' written'' status other s part =
       answers = s.answers;
       state = s.state;
       run = s.run;
+      counted = s.counted;
       wrote = s.wrote ++ part.part;
       appended = Appends-trans written written' written'' s.wrote part.part s.appended part.appended;
       writes = (
@@ -293,7 +318,7 @@ outcome_fault left left' written written' written'' status other s part =
         ap (λ l. l ++ status_line s.aim) (sym w) ∙ ap (λ l. s.wrote ++ l) (ap status_line e ∙ part.joined) ∙ sym (append_assoc s.wrote part.part part.rest),
         part.short,
       );
-      ends = tt;
+      ends = breaks;
     }
 
 no_part : (old new : Option (List ℕ)) → WritesPart old new [] → ⊥
@@ -303,27 +328,36 @@ no_part old new p = by p.part p.rest p.joined p.short
     by [] rest e some = some (sym e)
     by (x ∷ part) rest e some = cc
 
-pub outcome_err : (left left' written written' written'' : Option (List ℕ)) (status : Status)
-    → Stops left left' written written' status → WritesPart written' written'' (status_line status) → Outcome left left' written written'' OutputFault
-outcome_err left left' written written' written'' Done s part = outcome_fault left left' written written' written'' Done (λ e. cc) s part
-outcome_err left left' written written' written'' Memory s part = outcome_fault left left' written written' written'' Memory (λ e. cc) s part
-outcome_err left left' written written' written'' InputFault s part = outcome_fault left left' written written' written'' InputFault (λ e. cc) s part
-outcome_err left left' written written' written'' OutputFault s part = absurd (no_part written' written'' part)
-outcome_err left left' written written' written'' TooLong s part = outcome_fault left left' written written' written'' TooLong (λ e. cc) s part
+pub outcome_err : (tells : Type 0) (files : FileMap) (before faults : ℕ) (left left' written written' written'' : Option (List ℕ)) (status : Status)
+    → Stops tells files before faults left left' written written' status → WritesPart written' written'' (status_line status) → Outcome tells files before faults left left' written written'' OutputFault
+outcome_err tells files before faults left left' written written' written'' Done s part = absurd (no_part written' written'' part)
+outcome_err tells files before faults left left' written written' written'' Memory s part =
+    outcome_fault tells files before faults left left' written written' written'' Memory (λ e. cc) s (subst (λ (a : Status). Breaks a left' s.read s.unread s.rest) (sym s.aims) s.ends) part
+outcome_err tells files before faults left left' written written' written'' InputFault s part =
+    outcome_fault tells files before faults left left' written written' written'' InputFault (λ e. cc) s (subst (λ (a : Status). Breaks a left' s.read s.unread s.rest) (sym s.aims) s.ends) part
+outcome_err tells files before faults left left' written written' written'' OutputFault s part = absurd (no_part written' written'' part)
+outcome_err tells files before faults left left' written written' written'' TooLong s part =
+    outcome_fault tells files before faults left left' written written' written'' TooLong (λ e. cc) s (subst (λ (a : Status). Breaks a left' s.read s.unread s.rest) (sym s.aims) s.ends) part
 
-pub reading_at_start : (left written : Option (List ℕ)) (state : State) (kept : Option (List ℕ)) → state ≡ start → kept ≡ Some [] → Reading left left written written state kept 0
-reading_at_start left written state kept a b =
-    subst (λ (s : State). Reading left left written written s kept 0) (sym a)
-    (subst (λ (k : Option (List ℕ)). Reading left left written written start k 0) (sym b) (reading_begins left written))
+-- a run that stopped, after the line of its status
+pub outcome_end : (tells : Type 0) (files : FileMap) (before faults : ℕ) (left left' written written' written'' : Option (List ℕ)) (status result : Status)
+    → Stops tells files before faults left left' written written' status → EndsWith status written' written'' result → Outcome tells files before faults left left' written written'' result
+outcome_end tells files before faults left left' written written' written'' status result s (is_whole line) = outcome_ok tells files before faults left left' written written' written'' status s line
+outcome_end tells files before faults left left' written written' written'' status result s (is_part line) = outcome_err tells files before faults left left' written written' written'' status s line
+
+pub reading_at_start : (tells : Type 0) (files : FileMap) (before : ℕ) (left written : Option (List ℕ)) (state : State) (kept : Option (List ℕ)) → state ≡ start → kept ≡ Some [] → Reading tells files before before left left written written state kept 0
+reading_at_start tells files before left written state kept a b =
+    subst (λ (s : State). Reading tells files before before left left written written s kept 0) (sym a)
+    (subst (λ (k : Option (List ℕ)). Reading tells files before before left left written written start k 0) (sym b) (reading_begins tells files before left written))
 
 -- an input that has fewer bytes than may be taken isn't too long
-too_few : (left left' written written' : Option (List ℕ)) → Outcome left left' written written' TooLong → IfSome left (λ bytes. length bytes < 2 ^ 32 → ⊥)
-too_few None left' written written' o = tt
-too_few (Some xs) None written written' o = absurd o.taken
-too_few (Some xs) (Some ys) written written' o = λ few. absurd (omega (arith, ap length o.taken, o.ends.1, length-append (o.read ++ o.unread) ys, length-append o.read o.unread))
+too_few : (tells : Type 0) (files : FileMap) (before faults : ℕ) (left left' written written' : Option (List ℕ)) → Outcome tells files before faults left left' written written' TooLong → IfSome left (λ bytes. length bytes < 2 ^ 32 → ⊥)
+too_few tells files before faults None left' written written' o = tt
+too_few tells files before faults (Some xs) None written written' o = absurd o.taken
+too_few tells files before faults (Some xs) (Some ys) written written' o = λ few. absurd (omega (arith, ap length o.taken, o.ends.1, length-append (o.read ++ o.unread) ys, length-append o.read o.unread))
 
-pub in_time : (left left' written written' : Option (List ℕ)) (status : Status) → Outcome left left' written written' status → IfSome left (λ bytes. length bytes < 2 ^ 32 → status ≢ TooLong)
-in_time left left' written written' status o = by left (λ e. too_few left left' written written' (subst (Outcome left left' written written') e o))
+pub in_time : (tells : Type 0) (files : FileMap) (before faults : ℕ) (left left' written written' : Option (List ℕ)) (status : Status) → Outcome tells files before faults left left' written written' status → IfSome left (λ bytes. length bytes < 2 ^ 32 → status ≢ TooLong)
+in_time tells files before faults left left' written written' status o = by left (λ e. too_few tells files before faults left left' written written' (subst (Outcome tells files before faults left left' written written') e o))
   where
     by : (known : Option (List ℕ)) → (status ≡ TooLong → IfSome known (λ bytes. length bytes < 2 ^ 32 → ⊥)) → IfSome known (λ bytes. length bytes < 2 ^ 32 → status ≢ TooLong)
     by None h = tt

@@ -1,25 +1,31 @@
 -- The line that is kept while it is read.
-use Rattle.std.proofs.Common.{◌≡◌, Bool, true, false, cond, length, None, Some, nat_le, refl, ap}
+use Rattle.std.proofs.Common.{◌≡◌, Bool, true, false, cond, length, None, Some, nat_le, refl, ap, subst}
 use Rattle.cdb_model.specs.Text.{Text}
 use Rattle.cdb_model.specs.Commands as said
-use Rattle.cdb_model.specs.Commands.{Command, command_of}
-use Rattle.cdb_model.specs.Run.{line_command}
+use Rattle.cdb_model.specs.Commands.{Command, spoken, line_command}
+use Rattle.cdb_model.specs.Grammar.{line_of}
+use Rattle.cdb_front.specs.Hearing.{Says}
 use Rattle.cdb_front.specs.Kept.{kept_of}
+use Rattle.cdb_front.specs.declared.heard.Heard.{Heard}
 
 -- what is kept says what the line says
-pub kept_said : (kept text : Text) → Some kept ≡ kept_of text → command_of kept ≡ line_command text
+kept_said : (kept text : Text) → Some kept ≡ kept_of text → spoken (line_of kept) ≡ line_command text
 unfolding line_command
 kept_said kept text e = by (nat_le (length text) 4096) e
   where
-    by : (b : Bool) → Some kept ≡ cond b (Some text) None → command_of kept ≡ cond b (command_of text) said.not_built
-    by true e = let same : kept ≡ text = cc in ap command_of same
+    by : (b : Bool) → Some kept ≡ cond b (Some text) None → spoken (line_of kept) ≡ cond b (spoken (line_of text)) said.overlong
+    by true e = let same : kept ≡ text = cc in ap (λ (l : Text). spoken (line_of l)) same
     by false e = cc
 
--- a line that isn't kept is none that is built
-pub too_long : (text : Text) → None ≡ kept_of text → said.not_built ≡ line_command text
+-- a line that isn't kept is too long
+pub too_long : (text : Text) → None ≡ kept_of text → said.overlong ≡ line_command text
 unfolding line_command
 too_long text e = by (nat_le (length text) 4096) e
   where
-    by : (b : Bool) → None ≡ cond b (Some text) None → said.not_built ≡ cond b (command_of text) said.not_built
+    by : (b : Bool) → None ≡ cond b (Some text) None → said.overlong ≡ cond b (spoken (line_of text)) said.overlong
     by true e = cc
     by false e = refl
+
+-- what is heard in what is kept is heard in the line
+pub kept_says : (kept text : Text) (h : Heard) → Says h (spoken (line_of kept)) → Some kept ≡ kept_of text → Says h (line_command text)
+kept_says kept text h says e = subst (Says h) (kept_said kept text e) says

@@ -3,8 +3,10 @@ use Rattle.std.proofs.Common.{◌≡◌, ◌≢◌, ℕ, ◌≤◌, List, [], �
 use Rattle.std.proofs.lemmas.List.{take-append-le, take-append-drop, take_at}
 use Rattle.std.specs.List.{flat_map}
 use Rattle.cdb_model.specs.Text.{Text, ended}
+use Rattle.cdb_model.specs.Maps.{FileMap}
 use Rattle.cdb_model.specs.Commands as said
-use Rattle.cdb_model.specs.Run.{HasNoFeed, HaveNoFeed, HaveNoQuit, line_command}
+use Rattle.cdb_model.specs.Commands.{line_command}
+use Rattle.cdb_model.specs.Run.{HasNoFeed, HaveNoFeed, HaveNoQuit}
 use Rattle.cdb_front.specs.Outcome.{Outcome, QuitsInTime}
 use Rattle.cdb_front.specs.declared.status.Status.{Status}
 use Rattle.cdb_front.specs.declared.status.Status.TheVariants.{TooLong}
@@ -58,17 +60,17 @@ first_part xs front after read rest a b short =
     let two : take (length front) xs ≡ take (length front) read = ap (take (length front)) b ∙ take-append-le (length front) read rest short in
     (drop (length front) read, sym (take-append-drop (length front) read) ∙ ap (λ l. l ++ drop (length front) read) (sym two ∙ one))
 
-too_long_quits : (left left' written written' : Option (List ℕ)) → Outcome left left' written written' TooLong → IfSome left (λ bytes. QuitsInTime bytes → ⊥)
-too_long_quits None left' written written' o = tt
-too_long_quits (Some xs) None written written' o = absurd o.taken
-too_long_quits (Some xs) (Some ys) written written' o = λ q.
+too_long_quits : (tells : Type 0) (files : FileMap) (before faults : ℕ) (left left' written written' : Option (List ℕ)) → Outcome tells files before faults left left' written written' TooLong → IfSome left (λ bytes. QuitsInTime bytes → ⊥)
+too_long_quits tells files before faults None left' written written' o = tt
+too_long_quits tells files before faults (Some xs) None written written' o = absurd o.taken
+too_long_quits tells files before faults (Some xs) (Some ys) written written' o = λ q.
     let front = flat_map ended (q.before ++ q.line ∷ []) in
     let part = first_part xs front q.after o.read (o.unread ++ ys) q.joined (o.taken ∙ append_assoc o.read o.unread ys) (omega (arith, q.in_time, o.ends.1)) in
     let lines = first_lines (q.before ++ q.line ∷ []) o.lines part.0 o.rest q.whole o.cut.whole o.cut.open_end (sym part.1 ∙ o.cut.joined) in
     no_quit_among q.before q.line lines.0 (subst HaveNoQuit lines.1 o.no_quit) q.quit
 
-pub quits : (left left' written written' : Option (List ℕ)) (status : Status) → Outcome left left' written written' status → IfSome left (λ bytes. QuitsInTime bytes → status ≢ TooLong)
-quits left left' written written' status o = by left (λ e. too_long_quits left left' written written' (subst (Outcome left left' written written') e o))
+pub quits : (tells : Type 0) (files : FileMap) (before faults : ℕ) (left left' written written' : Option (List ℕ)) (status : Status) → Outcome tells files before faults left left' written written' status → IfSome left (λ bytes. QuitsInTime bytes → status ≢ TooLong)
+quits tells files before faults left left' written written' status o = by left (λ e. too_long_quits tells files before faults left left' written written' (subst (Outcome tells files before faults left left' written written') e o))
   where
     by : (known : Option (List ℕ)) → (status ≡ TooLong → IfSome known (λ bytes. QuitsInTime bytes → ⊥)) → IfSome known (λ bytes. QuitsInTime bytes → status ≢ TooLong)
     by None h = tt

@@ -1,10 +1,11 @@
--- Answers as the program keeps them: a word and its numbers, and the bytes of a tile apart.
-use Rattle.std.specs.Prelude.{◌≡◌, ℕ, List, [], ◌∷◌, length, codes}
+-- The answers of the program: which answer of the machine each is, and how it is written.
+use Rattle.std.specs.Prelude.{◌≡◌, ℕ, List, [], ◌∷◌, ◌++◌, length, codes}
+use Rattle.cdb_tiff_base.specs.Words.{word_of}
 use Rattle.cdb_model.specs.Text.{Text, ended}
 use Rattle.cdb_model.specs.Machine as machine
 use Rattle.cdb_model.specs.Run.{numbered}
 use Rattle.cdb_front.specs.declared.answer.Answer.{Answer}
-use Rattle.cdb_front.specs.declared.answer.Answer.TheVariants.{Source, Begun, Published, Session, Missing, Tile, NotBuilt, Busy, Nothing, Memory}
+use Rattle.cdb_front.specs.declared.answer.Answer.TheVariants.{Source, Begun, Published, Session, Missing, Tile, Closed, Versions, Long, Syntax, Name, NotBuilt, Busy, Unknown, Many, Nothing, Full, Shelf, Absent, TooBig, Input, Range, Large, Memory}
 
 -- the answer of the machine, with the bytes of a tile
 abbrev pub meant : Answer → List ℕ → machine.Answer
@@ -14,9 +15,23 @@ meant (Published version) reply = machine.published version
 meant (Session id version) reply = machine.session id version
 meant Missing reply = machine.missing
 meant (Tile count) reply = machine.tile reply
+meant Closed reply = machine.closed
+meant (Versions newest) reply = machine.versions newest
+meant Long reply = machine.long
+meant Syntax reply = machine.syntax
+meant (Name place) reply = machine.name place
 meant NotBuilt reply = machine.not_built
 meant Busy reply = machine.busy
+meant Unknown reply = machine.unknown
+meant Many reply = machine.many
 meant Nothing reply = machine.nothing
+meant Full reply = machine.full
+meant Shelf reply = machine.shelf
+meant Absent reply = machine.absent
+meant TooBig reply = machine.too_big
+meant (Input cause) reply = machine.input cause
+meant Range reply = machine.range
+meant (Large count) reply = machine.large count
 meant Memory reply = machine.memory
 
 -- a tile's answer has the length of its bytes
@@ -24,7 +39,7 @@ abbrev pub HasLength : Answer → List ℕ → Type 0
 HasLength (Tile count) reply = count ≡ length reply
 HasLength _ reply = Unit {0}
 
--- the line of an answer, and what follows it
+-- the line of an answer
 abbrev pub head_of : Answer → Text
 head_of (Source count) = ended (numbered (codes "source") (count ∷ []))
 head_of (Begun version files) = ended (numbered (codes "begun") (version ∷ files ∷ []))
@@ -32,11 +47,31 @@ head_of (Published version) = ended (numbered (codes "published") (version ∷ [
 head_of (Session id version) = ended (numbered (codes "session") (id ∷ version ∷ []))
 head_of Missing = ended (codes "missing")
 head_of (Tile count) = ended (numbered (codes "tile") (count ∷ []))
+head_of Closed = ended (codes "closed")
+head_of (Versions newest) = ended (numbered (codes "versions") (newest ∷ []))
+head_of Long = ended (codes "refused long")
+head_of Syntax = ended (codes "refused syntax")
+head_of (Name place) = ended (numbered (codes "refused name") (place ∷ []))
 head_of NotBuilt = ended (codes "refused notbuilt")
 head_of Busy = ended (codes "refused busy")
+head_of Unknown = ended (codes "refused session")
+head_of Many = ended (codes "refused sessions")
 head_of Nothing = ended (codes "refused nothing")
+head_of Full = ended (codes "refused full")
+head_of Shelf = ended (codes "refused shelf")
+head_of Absent = ended (codes "refused absent")
+head_of TooBig = ended (codes "refused input big")
+head_of (Input cause) = ended (codes "refused input " ++ word_of cause)
+head_of Range = ended (codes "refused range")
+head_of (Large count) = ended (numbered (codes "refused large") (count ∷ []))
 head_of Memory = ended (codes "refused memory")
 
-abbrev pub body_of : Answer → List ℕ → List ℕ
-body_of (Tile count) reply = reply
-body_of _ reply = []
+-- it doesn't say that the shelf failed
+abbrev pub IsQuiet : Answer → Type 0
+IsQuiet Shelf = ⊥
+IsQuiet _ = Unit {0}
+
+-- it has no bytes after its line
+abbrev pub IsBare : Answer → Type 0
+IsBare (Tile count) = ⊥
+IsBare _ = Unit {0}

@@ -3,10 +3,14 @@ use Rattle.std.specs.Prelude.{◌≡◌, ◌≢◌, ◌⊎◌, ℕ, ◌<◌, ◌
 use Rattle.std.specs.List.{flat_map}
 use Rattle.std.specs.Io.KnownBytes.{Appends, Consumes, IsAtEnd}
 use Rattle.cdb_model.specs.Text.{Text, ended}
+use Rattle.cdb_model.specs.Maps.{FileMap}
 use Rattle.cdb_model.specs.Commands as said
 use Rattle.cdb_model.specs.Machine.{State, start}
 use Rattle.cdb_model.specs.Machine as machine
-use Rattle.cdb_model.specs.Run.{Run, Cut, HaveNoFeed, HaveNoQuit, line_command, commands_of, texts_of}
+use Rattle.cdb_model.specs.Commands.{line_command}
+use Rattle.cdb_model.specs.Run.{Run, Cut, HaveNoFeed, HaveNoQuit, commands_of, texts_of}
+use Rattle.cdb_front.specs.Devices.{WritesPart}
+use Rattle.cdb_front.specs.Progress.{Holds, Counts}
 use Rattle.cdb_front.specs.declared.status.Status.{Status}
 use Rattle.cdb_front.specs.declared.status.Status.TheVariants.{Done, Memory, InputFault, OutputFault, TooLong}
 
@@ -37,13 +41,34 @@ abbrev pub Writes : Status → Text → Text → Type 0
 Writes OutputFault text wrote = (rest : Text) × (text ≡ wrote ++ rest) × (rest ≢ [])
 Writes status text wrote = wrote ≡ text
 
--- why the run ended: `quit` or the end of the input; a failed read; 2 ^ 32 bytes; nothing was read yet
+-- a run ended with the line of a status, which was written whole, or else its output failed
+pub data EndsWith (status : Status) (old new : Option (List ℕ)) : Status → Type 0 where
+  is_whole : Appends old new (status_line status) → EndsWith status old new status
+  is_part : WritesPart old new (status_line status) → EndsWith status old new OutputFault
+
+-- a line was whole: its line feed came after it, or the end of the input
+abbrev pub IsLineEnd : Option (List ℕ) → Text → Type 0
+IsLineEnd left unread = ((unread ≡ []) × IsAtEnd left) ⊎ ((after : Text) × (unread ≡ 10 ∷ after))
+
+-- why the run would have ended: the end of the input, or the line `quit` with its line feed, before 2 ^ 32 bytes; a failed
+-- read; 2 ^ 32 bytes; nothing was read yet
 abbrev pub Ends : Status → Option (List ℕ) → Text → Text → Text → Type 0
-Ends Done left read unread rest = (line_command rest ≡ said.quit) ⊎ ((unread ≡ []) × IsAtEnd left)
+Ends Done left read unread rest =
+    (length read < 2 ^ 32) × (((unread ≡ []) × IsAtEnd left) ⊎ ((line_command rest ≡ said.quit) × ((after : Text) × (unread ≡ 10 ∷ after))))
 Ends Memory left read unread rest = (unread ≡ []) × (read ≡ [])
 Ends InputFault left read unread rest = (unread ≡ []) × (length read < 2 ^ 32)
-Ends OutputFault left read unread rest = Unit {0}
+Ends OutputFault left read unread rest = ⊥
 Ends TooLong left read unread rest = (unread ≡ []) × (length read ≡ 2 ^ 32)
+
+-- the answer to a whole line wasn't written whole, or the line of the status that the run would have ended with
+abbrev pub Breaks : Status → Option (List ℕ) → Text → Text → Text → Type 0
+Breaks Done left read unread rest = (length read < 2 ^ 32) × IsLineEnd left unread
+Breaks aim left read unread rest = Ends aim left read unread rest
+
+-- why the run ended so
+abbrev pub Finishes : Status → Status → Option (List ℕ) → Text → Text → Text → Type 0
+Finishes OutputFault aim left read unread rest = Breaks aim left read unread rest
+Finishes status aim left read unread rest = Ends status left read unread rest
 
 -- the line `quit`, with its line feed, stands among the first 2 ^ 32 bytes
 pub record QuitsInTime (bytes : Text) : Type 0 where
@@ -55,12 +80,14 @@ pub record QuitsInTime (bytes : Text) : Type 0 where
   pub quit : line_command line ≡ said.quit
   pub in_time : length (flat_map ended (before ++ line ∷ [])) ≤ 2 ^ 32
 
--- one run of the machine from its start, over the lines that were read, and what was written of it
-pub record Outcome (left left' written written' : Option (List ℕ)) (status : Status) : Type 0 where
+-- one run of the machine from its start, over the lines that were read and the files that the shelf has where it tells,
+-- and what was written of it; the shelf's count of failures went from one number to another
+pub record Outcome (tells : Type 0) (files : FileMap) (before faults : ℕ) (left left' written written' : Option (List ℕ)) (status : Status) : Type 0 where
   -- what was taken and used, and what came in the same piece after `quit` or after the answer that wasn't written
   pub read : Text
   pub unread : Text
   pub taken : Consumes left left' (read ++ unread)
+  pub few : length (read ++ unread) ≤ 2 ^ 32
   -- the whole lines and the last piece of a line in it
   pub lines : List Text
   pub rest : Text
@@ -73,9 +100,11 @@ pub record Outcome (left left' written written' : Option (List ℕ)) (status : S
   pub hears : Hears aim lines rest heard
   pub answers : List machine.Answer
   pub state : State
-  pub run : Run start (commands_of heard) answers state
+  pub run : Run (Holds tells files) start (commands_of heard) answers state
+  -- no more answers say that the shelf failed than its count rose by
+  pub counted : Counts before faults answers
   -- what was written
   pub wrote : Text
   pub appended : Appends written written' wrote
   pub writes : Writes status (texts_of answers ++ status_line aim) wrote
-  pub ends : Ends status left' read unread rest
+  pub ends : Finishes status aim left' read unread rest

@@ -1,96 +1,114 @@
-ghost use Rattle.std.specs.Prelude.{◌≡◌, ◌≢◌, pos, slice_index_or, IfSome};
+ghost use Rattle.std.specs.Prelude.{◌≡◌, ◌≤◌, ◌∷◌, []};
 ghost use Rattle.cdb_model.specs.Commands as said;
-ghost use Rattle.cdb_model.specs.Commands.{command_in, IsBuilt, IsBuiltOrder};
+ghost use Rattle.cdb_model.specs.Commands.{Command};
+ghost use Rattle.cdb_model.specs.Grammar as grammar;
+ghost use Rattle.cdb_model.specs.Grammar.{sentence_in};
+ghost use Rattle.cdb_model.specs.Names.{name};
 ghost use Rattle.cdb_model.specs.Run.{Turn};
-ghost use Rattle.cdb_front.specs.Answers.{meant, HasLength};
+ghost use Rattle.cdb_front.specs.Answers.{meant, HasLength, IsBare, IsQuiet};
+ghost use Rattle.cdb_front.specs.Hearing.{IsEvent, IsAnswered, SaysAsked};
+ghost use Rattle.cdb_front.specs.Progress.{Holds, HasNothing, Counts};
 
 use crate::answer::Answer;
-use cdb_engine::{AdvanceError, Engine, PublishError, ReadyError, Reply, SessionError, TileError};
+use crate::heard::Asked;
+use crate::results::{close_answer, finish_answer, publish_answer, session_answer, tile_answer};
+use crate::sources::{inline_line, source_line};
+use cdb_engine::Engine;
+use cdb_files::Shelf;
 use cdb_grid::Tile;
-use cdb_model::{InlineWords, Line};
+use cdb_model::Line;
+use std::alloc::Global;
 
-fn give(engine: &mut Engine, words: &InlineWords) -> Answer
-    requires { IsBuiltOrder words.now }
-    ensures turn { Turn engine.old.state (said.inline words.now.lat.n words.now.lon.n (slice_index_or words.now.posts.items 0 (pos 0))) (meant result engine.new.reply) engine.new.state }
-    ensures length { HasLength result engine.new.reply }
+/// Begins a publication.
+fn publish(alloc: Global, engine: &mut Engine) -> Answer
+    ensures turn { Turn HasNothing engine.old.state (said.said grammar.publish) (meant result engine.new.reply) engine.new.state }
+    ensures bare { IsBare result }
+    ensures quiet { IsQuiet result }
 {
-    let Ok(source) = engine.inline(words) else {
-        unreachable!();
-    };
-    match engine.ready() {
-        Ok(()) => match engine.submit(source) {
-            Ok(count) => Answer::Source(count),
-            Err(_) => Answer::Memory,
-        },
-        Err(ReadyError::Busy) => Answer::Busy,
-        Err(ReadyError::Full) => Answer::NotBuilt,
-    }
+    publish_answer(engine.publish(alloc))
 }
 
-fn publish(engine: &mut Engine) -> Answer
-    ensures turn { Turn engine.old.state said.publish (meant result engine.new.reply) engine.new.state }
-    ensures length { HasLength result engine.new.reply }
-{
-    match engine.publish() {
-        Ok(begun) => Answer::Begun(begun.version, begun.files),
-        Err(PublishError::Busy) => Answer::Busy,
-        Err(PublishError::Nothing) => Answer::Nothing,
-        Err(PublishError::Memory) => Answer::Memory,
-    }
-}
-
+/// Makes all steps of a publication.
 fn finish(engine: &mut Engine) -> Answer
-    ensures turn { Turn engine.old.state said.step_all (meant result engine.new.reply) engine.new.state }
-    ensures length { HasLength result engine.new.reply }
+    ensures turn { Turn HasNothing engine.old.state (said.said grammar.step_all) (meant result engine.new.reply) engine.new.state }
+    ensures bare { IsBare result }
+    ensures quiet { IsQuiet result }
 {
-    match engine.finish() {
-        Ok(version) => Answer::Published(version),
-        Err(AdvanceError::Nothing) => Answer::Nothing,
-        Err(AdvanceError::Memory) => Answer::Memory,
-    }
+    finish_answer(engine.finish())
 }
 
+/// Opens a session.
 fn connect(engine: &mut Engine) -> Answer
-    ensures turn { Turn engine.old.state said.open_session (meant result engine.new.reply) engine.new.state }
-    ensures length { HasLength result engine.new.reply }
+    ensures turn { Turn HasNothing engine.old.state (said.said grammar.open_session) (meant result engine.new.reply) engine.new.state }
+    ensures bare { IsBare result }
+    ensures quiet { IsQuiet result }
 {
-    match engine.open_session() {
-        Ok(opened) => Answer::Session(opened.id, opened.version),
-        Err(SessionError::Many) => Answer::NotBuilt,
-        Err(SessionError::Memory) => Answer::Memory,
-    }
+    session_answer(engine.open_session())
 }
 
-fn ask(engine: &mut Engine, id: u32, tile: &Tile) -> Answer
-    ensures turn { Turn engine.old.state (said.tile id tile.now.family tile.now.level.number tile.now.cell.lat tile.now.cell.lon tile.now.up tile.now.right) (meant result engine.new.reply) engine.new.state }
-    ensures length { HasLength result engine.new.reply }
+/// Closes a session.
+fn disconnect(engine: &mut Engine, id: u32) -> Answer
+    ensures turn { Turn HasNothing engine.old.state (said.said (grammar.close id)) (meant result engine.new.reply) engine.new.state }
+    ensures bare { IsBare result }
+    ensures quiet { IsQuiet result }
 {
-    match engine.tile(id, tile) {
-        Ok(Reply::Bytes(length)) => Answer::Tile(length),
-        Ok(Reply::Missing) => Answer::Missing,
-        Err(TileError::Unknown) => Answer::NotBuilt,
-        Err(TileError::Memory) => Answer::Memory,
-    }
+    close_answer(engine.close_session(id))
+}
+
+/// Asks for a tile in a session.
+fn ask(engine: &mut Engine, id: u32, tile: &Tile) -> Answer
+    ensures turn { Turn HasNothing engine.old.state (said.said (grammar.tile id (name tile.now))) (meant result engine.new.reply) engine.new.state }
+    ensures length { HasLength result engine.new.reply }
+    ensures quiet { IsQuiet result }
+{
+    tile_answer(engine.tile(id, tile))
+}
+
+/// Tells the newest version.
+fn tell(engine: &Engine) -> Answer
+    ensures turn { Turn HasNothing engine.now.state (said.said grammar.versions) (meant result engine.now.reply) engine.now.state }
+    ensures bare { IsBare result }
+    ensures quiet { IsQuiet result }
+{
+    Answer::Versions(engine.versions())
 }
 
 /// Answers a line: one event of the engine.
-pub fn answer_line(engine: &mut Engine, line: Option<Line>) -> Answer
-    requires built { IfSome line IsBuilt }
-    requires not_blank { command_in line ≢ said.blank }
-    requires not_quit { command_in line ≢ said.quit }
-    ensures turn { Turn engine.old.state (command_in line) (meant result engine.new.reply) engine.new.state }
+fn answer_line<H: Shelf>(alloc: Global, engine: &mut Engine, shelf: &mut H, line: Line) -> Answer
+    requires event { IsEvent line }
+    ensures turn { Turn (Holds H.tells (H.files shelf.old)) engine.old.state (said.said (sentence_in line)) (meant result engine.new.reply) engine.new.state }
     ensures length { HasLength result engine.new.reply }
+    ensures files { H.files shelf.new ≡ H.files shelf.old }
+    ensures later { H.fault_count shelf.old ≤ H.fault_count shelf.new }
+    ensures counted { Counts (H.fault_count shelf.old) (H.fault_count shelf.new) (meant result engine.new.reply ∷ []) }
 {
     match line {
-        Some(Line::Inline(words)) => give(engine, &words),
-        Some(Line::Publish) => publish(engine),
-        Some(Line::StepAll) => finish(engine),
-        Some(Line::Open) => connect(engine),
-        Some(Line::Tile(id, tile)) => ask(engine, id, &tile),
-        Some(Line::Source(_)) => Answer::NotBuilt,
-        Some(Line::Step(_)) => Answer::NotBuilt,
-        Some(Line::Close(_)) => Answer::NotBuilt,
-        Some(Line::Versions) => Answer::NotBuilt,
-        Some(Line::Quit) | Some(Line::Blank) | None => Answer::NotBuilt,
+        Line::Inline(words) => inline_line(alloc, engine, &words),
+        Line::Source(words) => source_line(alloc, engine, shelf, &words),
+        Line::Publish => publish(alloc, engine),
+        Line::StepAll => finish(engine),
+        Line::Open => connect(engine),
+        Line::Tile(id, tile) => ask(engine, id, &tile),
+        Line::Close(id) => disconnect(engine, id),
+        Line::Versions => tell(engine),
+        Line::Step(_) => Answer::NotBuilt,
+        Line::Quit | Line::Blank => unreachable!(),
+    }
+}
+
+/// Answers a line that was read, or refuses it for what it is.
+pub fn answer<H: Shelf>(alloc: Global, engine: &mut Engine, shelf: &mut H, asked: Asked) -> Answer
+    requires answered { IsAnswered asked }
+    ensures turn { (command : Command) → SaysAsked asked command → Turn (Holds H.tells (H.files shelf.old)) engine.old.state command (meant result engine.new.reply) engine.new.state }
+    ensures length { HasLength result engine.new.reply }
+    ensures files { H.files shelf.new ≡ H.files shelf.old }
+    ensures later { H.fault_count shelf.old ≤ H.fault_count shelf.new }
+    ensures counted { Counts (H.fault_count shelf.old) (H.fault_count shelf.new) (meant result engine.new.reply ∷ []) }
+{
+    match asked {
+        Asked::Line(line) => answer_line(alloc, engine, shelf, line),
+        Asked::Long => Answer::Long,
+        Asked::Syntax => Answer::Syntax,
+        Asked::Name(place) => Answer::Name(place),
     }
 }

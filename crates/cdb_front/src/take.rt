@@ -1,79 +1,105 @@
-ghost use Rattle.std.specs.Prelude.{◌≡◌, ◌≢◌, ◌↔◌, ℕ, ◌≤◌, List, Option, IfSome, IsTrue};
+ghost use Rattle.std.specs.Prelude.{◌≡◌, ◌≢◌, ℕ, ◌≤◌, List, Option};
 ghost use Rattle.cdb_model.specs.Causes.{Rose};
-ghost use Rattle.cdb_model.specs.Commands as said;
-ghost use Rattle.cdb_model.specs.Commands.{command_in, IsBuilt};
-ghost use Rattle.cdb_model.specs.Run.{line_command};
+ghost use Rattle.cdb_model.specs.Commands.{Command, line_command, spoken};
+ghost use Rattle.cdb_model.specs.Grammar.{line_of};
+ghost use Rattle.cdb_model.specs.Maps.{FileMap};
+ghost use Rattle.cdb_front.specs.Hearing.{IsAnswered, IsHeard, Says, SaysAsked};
 ghost use Rattle.cdb_front.specs.Kept.{kept_of};
 ghost use Rattle.cdb_front.specs.Progress.{Sofar, SpeaksFed, TakesLine, TakesByte, TakesPiece};
 
-use crate::answer_line::answer_line;
+use crate::answer_line::answer;
 use crate::fed::Fed;
+use crate::heard::{Asked, Heard};
 use crate::line_maker::LineMaker;
 use crate::output::Output;
 use crate::say::say;
-use cdb_commands::read_built;
+use cdb_commands::read_line;
 use cdb_engine::Engine;
-use cdb_model::Line;
+use cdb_files::Shelf;
+use cdb_model::{Line, LineError};
+use std::alloc::Global;
 
-/// The line that was kept; one that is too long, or isn't built, is none.
-#[tactic(auto, using(crate::proofs::Lines::kept_said, crate::proofs::Lines::too_long))]
-fn read_kept(maker: &LineMaker) -> Option<Line>
-    ensures said { (text : List ℕ) → maker.now ≡ kept_of text → command_in result ≡ line_command text }
-    ensures built { IfSome result IsBuilt }
+/// What a line of at most 4,096 bytes is.
+fn hear(bytes: &[u8]) -> Heard
+    ensures said { Says result (spoken (line_of bytes.now)) }
+    ensures heard { IsHeard result }
+{
+    match read_line(bytes) {
+        Ok(Line::Blank) => Heard::Blank,
+        Ok(Line::Quit) => Heard::Quit,
+        Ok(line) => Heard::Event(Asked::Line(line)),
+        Err(LineError::Syntax) => Heard::Event(Asked::Syntax),
+        Err(LineError::Name { place }) => Heard::Event(Asked::Name(place)),
+    }
+}
+
+/// What the line that was kept is.
+fn read_kept(maker: &LineMaker) -> Heard
+    ensures said { (text : List ℕ) → maker.now ≡ kept_of text → Says result (line_command text) }
+    ensures heard { IsHeard result }
 {
     match maker.line() {
-        Some(bytes) => read_built(bytes),
-        None => None,
+        Some(bytes) => hear(bytes),
+        None => Heard::Event(Asked::Long),
     }
 }
 
 /// Answers a line that is an event, and writes the answer.
-fn answer_event<O: Output>(engine: &mut Engine, output: &mut O, line: Option<Line>) -> Fed
-    requires built { IfSome line IsBuilt }
-    requires not_blank { command_in line ≢ said.blank }
-    requires not_quit { command_in line ≢ said.quit }
-    ensures spoken { SpeaksFed result (command_in line) engine.old.state engine.new.state (O.written output.old) (O.written output.new) }
+fn answer_event<H: Shelf, O: Output>(
+    alloc: Global,
+    engine: &mut Engine,
+    shelf: &mut H,
+    output: &mut O,
+    asked: Asked,
+) -> Fed
+    requires answered { IsAnswered asked }
+    ensures spoken { (command : Command) → SaysAsked asked command → SpeaksFed H.tells (H.files shelf.old) (H.fault_count shelf.old) (H.fault_count shelf.new) result command engine.old.state engine.new.state (O.written output.old) (O.written output.new) }
+    ensures files { H.files shelf.new ≡ H.files shelf.old }
+    ensures shelf_later { H.fault_count shelf.old ≤ H.fault_count shelf.new }
     ensures later { O.fault_count output.old ≤ O.fault_count output.new }
     ensures failed { result ≡ Fed.Failed → Rose (O.fault_count output.old) (O.fault_count output.new) }
 {
-    let answer = answer_line(engine, line);
+    let answer = answer(alloc, engine, shelf, asked);
     match say(output, answer, engine.reply()) {
         Ok(()) => Fed::More,
         Err(_) => Fed::Failed,
     }
 }
 
-fn is_blank(line: &Option<Line>) -> bool
-    ensures { IsTrue result ↔ (command_in line.now ≡ said.blank) }
-{
-    matches!(line, Some(Line::Blank))
-}
-
-fn is_quit(line: &Option<Line>) -> bool
-    ensures { IsTrue result ↔ (command_in line.now ≡ said.quit) }
-{
-    matches!(line, Some(Line::Quit))
-}
-
 /// Answers the line that was kept, once it is whole.
-pub fn take_line<O: Output>(engine: &mut Engine, maker: &LineMaker, output: &mut O) -> Fed
-    ensures line { (read : List ℕ) (old : Option (List ℕ)) → Sofar read old (O.written output.old) engine.old.state maker.now → TakesLine result read old (O.written output.new) engine.new.state }
+pub fn take_line<H: Shelf, O: Output>(
+    alloc: Global,
+    engine: &mut Engine,
+    shelf: &mut H,
+    maker: &LineMaker,
+    output: &mut O,
+) -> Fed
+    ensures line { (files : FileMap) (before : ℕ) (read : List ℕ) (old : Option (List ℕ)) → H.files shelf.old ≡ files → Sofar H.tells files before read old (O.written output.old) (H.fault_count shelf.old) engine.old.state maker.now → TakesLine H.tells files before result read old (O.written output.new) (H.fault_count shelf.new) engine.new.state }
+    ensures files { H.files shelf.new ≡ H.files shelf.old }
+    ensures shelf_later { H.fault_count shelf.old ≤ H.fault_count shelf.new }
     ensures later { O.fault_count output.old ≤ O.fault_count output.new }
     ensures failed { result ≡ Fed.Failed → Rose (O.fault_count output.old) (O.fault_count output.new) }
 {
-    let line = read_kept(maker);
-    if is_blank(&line) {
-        return Fed::More;
+    match read_kept(maker) {
+        Heard::Blank => Fed::More,
+        Heard::Quit => Fed::Quit,
+        Heard::Event(asked) => answer_event(alloc, engine, shelf, output, asked),
     }
-    if is_quit(&line) {
-        return Fed::Quit;
-    }
-    answer_event(engine, output, line)
 }
 
 /// Takes a byte of the input.
-fn take_byte<O: Output>(engine: &mut Engine, maker: &mut LineMaker, output: &mut O, byte: u8) -> Fed
-    ensures byte { (read : List ℕ) (old : Option (List ℕ)) → Sofar read old (O.written output.old) engine.old.state maker.old → TakesByte result read byte old (O.written output.new) engine.new.state maker.new }
+fn take_byte<H: Shelf, O: Output>(
+    alloc: Global,
+    engine: &mut Engine,
+    shelf: &mut H,
+    maker: &mut LineMaker,
+    output: &mut O,
+    byte: u8,
+) -> Fed
+    ensures byte { (files : FileMap) (before : ℕ) (read : List ℕ) (old : Option (List ℕ)) → H.files shelf.old ≡ files → Sofar H.tells files before read old (O.written output.old) (H.fault_count shelf.old) engine.old.state maker.old → TakesByte H.tells files before result read byte old (O.written output.new) (H.fault_count shelf.new) engine.new.state maker.new }
+    ensures feed { result ≢ Fed.More → byte ≡ 10 }
+    ensures files { H.files shelf.new ≡ H.files shelf.old }
+    ensures shelf_later { H.fault_count shelf.old ≤ H.fault_count shelf.new }
     ensures later { O.fault_count output.old ≤ O.fault_count output.new }
     ensures failed { result ≡ Fed.Failed → Rose (O.fault_count output.old) (O.fault_count output.new) }
 {
@@ -81,7 +107,7 @@ fn take_byte<O: Output>(engine: &mut Engine, maker: &mut LineMaker, output: &mut
         maker.push(byte);
         return Fed::More;
     }
-    match take_line(engine, maker, output) {
+    match take_line(alloc, engine, shelf, maker, output) {
         Fed::More => {
             maker.clear();
             Fed::More
@@ -92,18 +118,22 @@ fn take_byte<O: Output>(engine: &mut Engine, maker: &mut LineMaker, output: &mut
 }
 
 /// Takes a piece of the input, and answers each line that ends in it.
-pub fn take_piece<O: Output>(
+pub fn take_piece<H: Shelf, O: Output>(
+    alloc: Global,
     engine: &mut Engine,
+    shelf: &mut H,
     maker: &mut LineMaker,
     output: &mut O,
     piece: &[u8],
 ) -> Fed
-    ensures piece { (read : List ℕ) (old : Option (List ℕ)) → Sofar read old (O.written output.old) engine.old.state maker.old → TakesPiece result read piece.now old (O.written output.new) engine.new.state maker.new }
+    ensures piece { (files : FileMap) (before : ℕ) (read : List ℕ) (old : Option (List ℕ)) → H.files shelf.old ≡ files → Sofar H.tells files before read old (O.written output.old) (H.fault_count shelf.old) engine.old.state maker.old → TakesPiece H.tells files before result read piece.now old (O.written output.new) (H.fault_count shelf.new) engine.new.state maker.new }
+    ensures files { H.files shelf.new ≡ H.files shelf.old }
+    ensures shelf_later { H.fault_count shelf.old ≤ H.fault_count shelf.new }
     ensures later { O.fault_count output.old ≤ O.fault_count output.new }
     ensures failed { result ≡ Fed.Failed → Rose (O.fault_count output.old) (O.fault_count output.new) }
 {
     for byte in piece {
-        match take_byte(engine, maker, output, *byte) {
+        match take_byte(alloc, engine, shelf, maker, output, *byte) {
             Fed::More => (),
             Fed::Quit => return Fed::Quit,
             Fed::Failed => return Fed::Failed,

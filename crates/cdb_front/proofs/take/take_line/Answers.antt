@@ -1,22 +1,21 @@
-use Rattle.std.proofs.Common.{◌≡◌, true, false, sym, ◌∙◌}
-use Rattle.cdb_model.specs.Commands.{command_in}
+use Rattle.std.proofs.Common.{subst}
+use Rattle.cdb_model.specs.Maps.{FileMap}
+use Rattle.cdb_front.specs.Progress.{SpeaksFed}
 use Rattle.cdb_front.proofs.Progress.{line_blank, line_quit, takes_event}
 use Rattle.cdb_front.proofs.take.take_line.Goals as goal
 
-pub returns-then-is_blank-clause-line : goal.returns-then-is_blank-clause-line
-returns-then-is_blank-clause-line g c =
-    λ read old sofar. line_blank read old (g.O.Output.written c.args.output.now) c.args.engine.now.state c.args.maker.now
-    (λ rest kept. sym (c.is_blank.ensures.0 c.if-is_blank.true) ∙ c.read_kept-line.ensures.said rest kept) sofar
+pub returns-in-Blank-clause-line : goal.returns-in-Blank-clause-line
+returns-in-Blank-clause-line g c =
+    λ files before read old same sofar. line_blank g.H.Shelf.tells files before read old (g.O.Output.written c.args.output.now) (g.H.Shelf.fault_count c.args.shelf.now) c.args.engine.now.state c.args.maker.now c.in-Blank.ensures.said sofar
 
-pub returns-then-is_quit-clause-line : goal.returns-then-is_quit-clause-line
-returns-then-is_quit-clause-line g c =
-    λ read old sofar. line_quit read old (g.O.Output.written c.args.output.now) c.args.engine.now.state c.args.maker.now
-    (λ rest kept. sym (c.is_quit.ensures.0 c.if-is_quit.true) ∙ c.read_kept-line.ensures.said rest kept) sofar
+pub returns-in-Quit-clause-line : goal.returns-in-Quit-clause-line
+returns-in-Quit-clause-line g c =
+    λ files before read old same sofar. line_quit g.H.Shelf.tells files before read old (g.O.Output.written c.args.output.now) (g.H.Shelf.fault_count c.args.shelf.now) c.args.engine.now.state c.args.maker.now c.in-Quit.ensures.said sofar
 
-pub returns-clause-line : goal.returns-clause-line
-returns-clause-line g c =
-    λ read old sofar. takes_event c.answer_event.result read old (g.O.Output.written c.args.output.now) (g.O.Output.written c.answer_event.new.output)
-    c.args.engine.now.state c.answer_event.new.engine.state c.args.maker.now (command_in c.read_kept-line.result) c.read_kept-line.ensures.said
-    (λ blank. let yes : c.is_blank.result ≡ true = c.is_blank.ensures.1 blank in let no : c.is_blank.result ≡ false = c.if-is_blank.false in cc)
-    (λ quit. let yes : c.is_quit.result ≡ true = c.is_quit.ensures.1 quit in let no : c.is_quit.result ≡ false = c.if-is_quit.false in cc)
-    c.answer_event.ensures.spoken sofar
+pub returns-in-Event-clause-line : goal.returns-in-Event-clause-line
+returns-in-Event-clause-line g c =
+    λ files before read old same sofar. takes_event g.H.Shelf.tells files before c.answer_event.result read old (g.O.Output.written c.args.output.now) (g.O.Output.written c.answer_event.new.output)
+    (g.H.Shelf.fault_count c.args.shelf.now) (g.H.Shelf.fault_count c.answer_event.new.shelf) c.args.engine.now.state c.answer_event.new.engine.state c.args.maker.now c.in-Event.asked
+    c.in-Event.ensures.heard c.in-Event.ensures.said
+    (λ command says. subst (λ (f : FileMap). SpeaksFed g.H.Shelf.tells f (g.H.Shelf.fault_count c.args.shelf.now) (g.H.Shelf.fault_count c.answer_event.new.shelf) c.answer_event.result command c.args.engine.now.state c.answer_event.new.engine.state (g.O.Output.written c.args.output.now) (g.O.Output.written c.answer_event.new.output)) same (c.answer_event.ensures.spoken command says))
+    sofar
