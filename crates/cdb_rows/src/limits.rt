@@ -19,13 +19,13 @@ fn limits_are_kept(rt: HostRuntime) -> Result<(), Fail> {
         Limit {
             line: b"open\n",
             times: 65,
-            last: b"session 64 0\nrefused notbuilt\n",
+            last: b"session 64 0\nrefused sessions\n",
         },
         // 64 sources are pending.
         Limit {
             line: b"inline elev -10 46 7 1 1 1 1 500\n",
             times: 65,
-            last: b"source 64\nrefused notbuilt\n",
+            last: b"source 64\nrefused full\n",
         },
     ];
     for limit in &limits {
@@ -44,17 +44,24 @@ fn limits_are_kept(rt: HostRuntime) -> Result<(), Fail> {
 
 #[test]
 fn long_lines_have_one_answer(rt: HostRuntime) -> Result<(), Fail> {
-    for length in [4096usize, 4097, 8192, 10000] {
+    for length in [4097usize, 8192, 10000] {
         let mut script = vec![in rt.alloc(); b'x'; length]?;
         script.extend_from_slice(b"\nopen\n")?;
         for piece in PIECES {
             let (status, output) = run(rt.alloc(), script.as_slice(), piece)?;
             assert_eq!(rt; status, Status::Done);
-            assert_eq!(rt;
-                output.written(),
-                b"refused notbuilt\nsession 1 0\n".as_slice()
-            );
+            assert_eq!(rt; output.written(), b"refused long\nsession 1 0\n".as_slice());
         }
     }
+    // The longest line that is read, and an input that ends inside a longer one.
+    let mut script = vec![in rt.alloc(); b'x'; 4096]?;
+    script.push(b'\n')?;
+    script.extend_from_slice(&[b'y'; 5000])?;
+    let (status, output) = run(rt.alloc(), script.as_slice(), 4096)?;
+    assert_eq!(rt; status, Status::Done);
+    assert_eq!(rt;
+        output.written(),
+        b"refused syntax\nrefused long\n".as_slice()
+    );
     Ok(())
 }

@@ -1,7 +1,9 @@
 //! Runs of the top call over devices in memory.
 
 use cdb_front::{MemInput, MemOutput, Status, cdb_run};
+use cdb_memfiles::MemShelf;
 use std::alloc::Global;
+use std::collections::BTreeMap;
 use std::test::Fail;
 
 /// The head of a tile's file of one element of 16 bits, byte by byte.
@@ -23,8 +25,15 @@ pub const HEAD: [u8; 186] = [
 /// The sizes of the pieces in which an input comes.
 pub const PIECES: [usize; 3] = [1, 3, 4096];
 
-/// Runs a script that comes in pieces of at most `piece` bytes, or of one byte for 0, and gives what
-/// was written.
+/// A script, and what is written in answer to it.
+#[derive(Drop)]
+pub struct Row {
+    pub script: &'static [u8],
+    pub answers: &'static [&'static [u8]],
+}
+
+/// Runs a script that comes in pieces of at most `piece` bytes, or of one byte for 0, over an empty
+/// shelf, and gives what was written.
 pub fn run(alloc: Global, script: &[u8], piece: usize) -> Result<(Status, MemOutput), Fail> {
     run_with(alloc, script, piece, 0, 0)
 }
@@ -37,14 +46,41 @@ pub fn run_with(
     read: u64,
     write: u64,
 ) -> Result<(Status, MemOutput), Fail> {
+    let mut shelf = MemShelf::new(BTreeMap::new(alloc), Vec::new(alloc));
+    run_over(alloc, &mut shelf, script, piece, read, write)
+}
+
+/// The same over a shelf.
+pub fn run_over(
+    alloc: Global,
+    shelf: &mut MemShelf,
+    script: &[u8],
+    piece: usize,
+    read: u64,
+    write: u64,
+) -> Result<(Status, MemOutput), Fail> {
     let mut reads = Vec::new(alloc);
     reads.push(read)?;
     let mut writes = Vec::new(alloc);
     writes.push(write)?;
     let mut input = MemInput::new(Vec::from_slice(alloc, script)?, piece.max(1), reads);
     let mut output = MemOutput::new(alloc, writes);
-    let status = cdb_run(alloc, &mut input, &mut output);
+    let status = cdb_run(alloc, shelf, &mut input, &mut output);
     Ok((status, output))
+}
+
+/// Whether a script has these answers, in whatever pieces it comes.
+pub fn is_answered(alloc: Global, row: &Row) -> Result<bool, Fail> {
+    for piece in PIECES {
+        let (status, output) = run(alloc, row.script, piece)?;
+        if status != Status::Done || output.refused() != 0 {
+            return Ok(false);
+        }
+        if !is_joined(output.written(), row.answers) {
+            return Ok(false);
+        }
+    }
+    Ok(true)
 }
 
 /// Whether bytes are these pieces, one after another.

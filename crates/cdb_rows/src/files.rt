@@ -1,0 +1,175 @@
+//! Sources from files of the shelf.
+
+use crate::raster::{has_rasters, tile_after};
+use crate::script::run_over;
+use crate::tiff::{BIG, LITTLE, changed, large};
+use cdb_files::Path;
+use cdb_front::{MemOutput, Status};
+use cdb_memfiles::MemShelf;
+use std::alloc::Global;
+use std::collections::BTreeMap;
+use std::test::Fail;
+
+/// The answers to a script over a shelf with one file, of which the call of this number fails.
+fn answers(
+    alloc: Global,
+    file: Vec<u8>,
+    fails: u64,
+    script: &[u8],
+) -> Result<(Status, MemOutput), Fail> {
+    let mut path = Path::new();
+    path.try_push_str("a.tif")?;
+    let mut files = BTreeMap::new(alloc);
+    files.insert(path, file)?;
+    let mut calls = Vec::new(alloc);
+    calls.push(fails)?;
+    let mut shelf = MemShelf::new(files, calls);
+    run_over(alloc, &mut shelf, script, 4096, 0, 0)
+}
+
+const FOUR_POSTS: &[u8] =
+    b"source elev -9 46 7 1/2 1/2 -32768 a.tif\npublish\nstep all\nopen\ntile 1 N46E007_D001_S001_T001_LC09_U0_R0.tif\ntile 1 N46E007_D001_S001_T001_LC10_U0_R0.tif\ntile 1 N46E007_D002_S001_T001_LC10_U0_R0.tif\ntile 1 N46E007_D002_S001_T002_LC10_U0_R0.tif\n";
+
+#[test]
+fn a_file_is_a_source(rt: HostRuntime) -> Result<(), Fail> {
+    let rasters: [&[u8]; 4] = [
+        &[0x1E, 0x00, 0x28, 0x00, 0x0A, 0x00, 0x14, 0x00],
+        &[0x0A, 0x00],
+        &[0x0A, 0x00],
+        &[0x28, 0x00],
+    ];
+    for file in [LITTLE, BIG] {
+        let bytes = Vec::from_slice(rt.alloc(), file)?;
+        let (status, output) = answers(rt.alloc(), bytes, 0, FOUR_POSTS)?;
+        assert_eq!(rt; status, Status::Done);
+        assert!(rt; has_rasters(output.written(), &rasters));
+    }
+    // The number of the line stands for no value: 20 is the south-east post.
+    let bytes = Vec::from_slice(rt.alloc(), LITTLE)?;
+    let (_, output) = answers(
+        rt.alloc(),
+        bytes,
+        0,
+        b"source elev -9 46 7 1/2 1/2 20 a.tif\npublish\nstep all\nopen\ntile 1 N46E007_D001_S001_T001_LC09_U0_R0.tif\n",
+    )?;
+    let without: [&[u8]; 1] = [&[0x1E, 0x00, 0x28, 0x00, 0x0A, 0x00, 0x00, 0x80]];
+    assert!(rt; has_rasters(output.written(), &without));
+    Ok(())
+}
+
+#[test]
+fn files_are_refused(rt: HostRuntime) -> Result<(), Fail> {
+    // The worked file with another byte at one place, and the answer.
+    let rows: [(usize, u8, &[u8]); 6] = [
+        (2, 0x2b, b"refused input bigtiff\n"),
+        (54, 5, b"refused input compressed\n"),
+        (138, 3, b"refused input float\n"),
+        (70, 0x12, b"refused input absent 273\n"),
+        (198, 0xd7, b"refused input short\n"),
+        (18, 0, b"refused input size\n"),
+    ];
+    for row in rows {
+        let file = changed(rt.alloc(), row.0, row.1)?;
+        let (status, output) = answers(
+            rt.alloc(),
+            file,
+            0,
+            b"source elev -9 46 7 1/2 1/2 -32768 a.tif\n",
+        )?;
+        assert_eq!(rt; status, Status::Done);
+        assert_eq!(rt; output.written(), row.2);
+    }
+    // A file that ends too early, one that isn't there, and numbers that are out of range, which come last.
+    let mut cut = Vec::from_slice(rt.alloc(), LITTLE)?;
+    cut.truncate(217);
+    let (_, output) = answers(
+        rt.alloc(),
+        cut,
+        0,
+        b"source elev 24 46 7 1/2 1/2 -32768 a.tif\nsource elev -9 46 7 1/2 1/2 -32768 b.tif\n",
+    )?;
+    assert_eq!(rt;
+        output.written(),
+        b"refused input short\nrefused absent\n".as_slice()
+    );
+    let whole = Vec::from_slice(rt.alloc(), LITTLE)?;
+    let (_, output) = answers(
+        rt.alloc(),
+        whole,
+        0,
+        b"source elev 24 46 7 1/2 1/2 -32768 a.tif\nsource elev -9 46 7 1/7 1/2 -32768 a.tif\nsource elev -9 90 7 1/2 1/2 -32768 a.tif\n",
+    )?;
+    assert_eq!(rt;
+        output.written(),
+        b"refused range\nrefused range\nrefused range\n".as_slice()
+    );
+    Ok(())
+}
+
+#[test]
+fn a_failed_read_leaves_the_store(rt: HostRuntime) -> Result<(), Fail> {
+    // Its length is the first call, and its bytes are the second.
+    for call in 1..3 {
+        let whole = Vec::from_slice(rt.alloc(), LITTLE)?;
+        let (status, output) = answers(
+            rt.alloc(),
+            whole,
+            call,
+            b"source elev -9 46 7 1/2 1/2 -32768 a.tif\nsource elev -9 46 7 1/2 1/2 -32768 a.tif\n",
+        )?;
+        assert_eq!(rt; status, Status::Done);
+        assert_eq!(rt; output.written(), b"refused shelf\nsource 1\n".as_slice());
+    }
+    let big = vec![in rt.alloc(); 0u8; 67_108_865]?;
+    let (_, output) = answers(
+        rt.alloc(),
+        big,
+        0,
+        b"source elev -9 46 7 1/2 1/2 -32768 a.tif\n",
+    )?;
+    assert_eq!(rt; output.written(), b"refused input big\n".as_slice());
+    Ok(())
+}
+
+/// The post of a row of a tile at level 1 over posts at 3,600 to a degree, each the number of its row.
+fn interpolated(row: usize) -> i16 {
+    ((7200 * (row.min(1023) as i64) + 2048) / 4096) as i16
+}
+
+/// Whether a raster of 1,024 by 1,024, the north row first, has these posts in all its columns.
+fn has_rows(raster: &[u8]) -> bool {
+    for (from_north, row) in raster.chunks(2048).enumerate() {
+        let post = interpolated(1023 - from_north.min(1023)).to_le_bytes();
+        for found in row.chunks(2) {
+            if found != post.as_slice() {
+                return false;
+            }
+        }
+    }
+    raster.len() == 2_097_152
+}
+
+#[test]
+fn a_large_file_is_sampled(rt: HostRuntime) -> Result<(), Fail> {
+    let (status, output) = answers(
+        rt.alloc(),
+        large(rt.alloc())?,
+        0,
+        b"source elev 1 47 11 1/3600 1/3600 -32768 a.tif\npublish\nstep all\nopen\ntile 1 N47E011_D001_S001_T001_L01_U0_R0.tif\n",
+    )?;
+    assert_eq!(rt; status, Status::Done);
+    let Some(tiles) = output.written().strip_prefix(
+        b"source 1\nbegun 1 159\npublished 1\nsession 1 1\n".as_slice(),
+    )
+    else {
+        assert!(rt; false);
+        return Ok(());
+    };
+    let Some((raster, rest)) = tile_after(tiles) else {
+        assert!(rt; false);
+        return Ok(());
+    };
+    assert!(rt; has_rows(raster));
+    assert!(rt; rest.is_empty());
+    Ok(())
+}
