@@ -1,0 +1,6 @@
+pub mod ListLaws
+pub mod EntryLaws
+pub mod FieldLaws
+pub mod DecodingLaws
+pub mod HeadFileLaws
+pub mod PublicationLaws

@@ -1,0 +1,30 @@
+-- What a record may hold.
+use Rattle.std.specs.Prelude.{◌≡◌, ℕ, ◌≤◌, List, length, AllPairs}
+use Rattle.std.specs.declared.cmp.Ordering.TheVariants.{Less}
+use Rattle.cdb_grid.specs.Order.{tile_cmp}
+use Rattle.cdb_grid.specs.declared.tile.Tile.{Tile}
+use Rattle.cdb_source.specs.declared.head.SourceHead.{SourceHead}
+use Rattle.cdb_source.specs.Reached.{IsTouched}
+use Rattle.cdb_source.specs.declared.source.Source.{Source}
+use Rattle.cdb_model.specs.Machine.{heads_of}
+use Rattle.cdb_model.specs.Stands.{IsPublication}
+use Rattle.cdb_manifest.specs.declared.record_.Record.{Record}
+use Rattle.cdb_model.specs.Records.{record_text}
+
+-- the text of a record
+abbrev pub text_of : Record → List ℕ
+text_of item = record_text item.version item.heads item.tiles
+
+-- the record of a publication: its version, the heads of its sources and the tiles that they touch
+pub record IsPublished (version : ℕ) (heads : List SourceHead) (tiles : List Tile) : Type 0 where
+  pub version_least : 1 ≤ version
+  pub version_most : version ≤ 4096
+  pub heads_least : 1 ≤ length heads
+  pub heads_most : length heads ≤ 64
+  pub touched : IsTouched heads tiles
+  pub tiles_most : length tiles ≤ 16384
+
+-- the text of each publication's record is that of a record
+abbrev pub PublicationsHaveRecords : Type 0
+PublicationsHaveRecords = (version : ℕ) (sources : List Source) (tiles : List Tile) → 1 ≤ version → version ≤ 4096 → IsPublication sources → IsTouched (heads_of sources) tiles
+    → (item : Record) × (text_of item ≡ record_text version (heads_of sources) tiles)

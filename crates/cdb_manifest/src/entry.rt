@@ -1,0 +1,115 @@
+//! Tiles from their bytes in a record.
+ghost use Rattle.std.specs.Prelude.{◌≡◌, ◌+◌, ◌<◌, ◌≤◌, ℤ, pos, negsuc, ◌≤ℤ◌, take, drop, ◌++◌, List, ℕ, MatchOption};
+ghost use Rattle.std.specs.Int.{w16, w32, from_be_bytes, cast_signed};
+ghost use Rattle.cdb_grid.specs.Units.{height_of, tiles_of, column_of};
+ghost use Rattle.cdb_grid.specs.declared.family.Family as families;
+ghost use Rattle.cdb_grid.specs.declared.geocell.Geocell as cells;
+ghost use Rattle.cdb_grid.specs.declared.tile.Tile as tiles;
+ghost use Rattle.cdb_model.specs.Records.{family_number, entry_text};
+ghost use Rattle.cdb_manifest.specs.Entries.{HasTile};
+
+use cdb_grid::{Family, Geocell, Level, Tile, zone_of};
+
+fn family_of(number: u8) -> Option<Family>
+    ensures { MatchOption result ((family : families.Family) → number ≡ family_number family → ⊥) (λ family. number ≡ family_number family) }
+{
+    match number {
+        1 => Some(Family::Elev),
+        2 => Some(Family::Low),
+        3 => Some(Family::High),
+        4 => Some(Family::Mat),
+        _ => None,
+    }
+}
+
+fn column(lon: i16) -> u16
+    requires west { negsuc 179 ≤ℤ lon }
+    requires east { lon ≤ℤ pos 179 }
+    ensures { result ≡ column_of lon }
+{
+    (lon + 180) as u16
+}
+
+/// The geocell with this south-west corner, in whole degrees.
+fn geocell_of(lat: i8, lon: i16) -> Option<Geocell>
+    ensures { MatchOption result ((cell : cells.Geocell) → lat ≡ cell.lat → lon ≡ cell.lon → ⊥) (λ cell. (lat ≡ cell.lat) × (lon ≡ cell.lon)) }
+{
+    if lat < -90 || lat > 89 || lon < -180 || lon > 179 {
+        return None;
+    }
+    if column(lon) % u16::from(zone_of(lat).width) != 0 {
+        return None;
+    }
+    Some(Geocell { lat, lon })
+}
+
+/// How many tiles of a level stand along one side of a geocell.
+fn tiles_across(level: Level) -> u32
+    ensures { result ≡ tiles_of (height_of level.number) }
+{
+    if level.number <= 0 {
+        1
+    } else {
+        1 << level.number
+    }
+}
+
+fn number_in(entry: &[u8; 16], at: usize) -> u32
+    requires { at + 4 ≤ 16 }
+    ensures { result ≡ from_be_bytes w32 (take 4 (drop at entry.now)) }
+{
+    u32::from_be_bytes([entry[at], entry[at + 1], entry[at + 2], entry[at + 3]])
+}
+
+fn longitude_in(entry: &[u8; 16]) -> i16
+    ensures { result ≡ cast_signed w16 (from_be_bytes w16 (take 2 (drop 4 entry.now))) }
+{
+    i16::from_be_bytes([entry[4], entry[5]])
+}
+
+/// The tile whose entry these bytes are.
+pub(crate) fn tile_of(entry: &[u8; 16]) -> Option<Tile>
+    ensures { MatchOption result ((tile : tiles.Tile) → HasTile entry.now tile → ⊥) (λ tile. HasTile entry.now tile) }
+{
+    if entry[3] != 0 || entry[6] != 0 || entry[7] != 0 {
+        return None;
+    }
+    let Some(family) = family_of(entry[0]) else {
+        return None;
+    };
+    let Some(level) = Level::new(i32::from(entry[1].cast_signed())) else {
+        return None;
+    };
+    let Some(cell) = geocell_of(entry[2].cast_signed(), longitude_in(entry)) else {
+        return None;
+    };
+    let up = number_in(entry, 8);
+    let right = number_in(entry, 12);
+    let across = tiles_across(level);
+    if up >= across {
+        return None;
+    }
+    if right >= across {
+        return None;
+    }
+    Some(Tile {
+        family,
+        cell,
+        level,
+        up,
+        right,
+    })
+}
+
+/// The tile whose entry the bytes begin with, and what follows it.
+pub(crate) fn entry_at(bytes: &[u8]) -> Option<(Tile, &[u8])>
+    ensures { MatchOption result ((tile : tiles.Tile) (after : List ℕ) → bytes.now ≡ entry_text tile ++ after → ⊥) (λ p. bytes.now ≡ entry_text p.0 ++ p.1.now) }
+{
+    let Some(entry) = bytes.first_chunk::<16>() else {
+        return None;
+    };
+    let Some(tile) = tile_of(entry) else {
+        return None;
+    };
+    Some((tile, bytes.split_at(16).1))
+}
