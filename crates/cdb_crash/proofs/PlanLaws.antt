@@ -1,0 +1,333 @@
+-- The steps of a publication lead from a clean disk to where its head alone is left.
+use Rattle.std.proofs.Common.{◌≡◌, ◌≢◌, ℕ, zero, suc, ◌+◌, Bool, true, false, ◌⊎◌, inl, inr, List, [], ◌∷◌, ◌++◌, length, length-append, get_or, take, drop, map, Option, None, Some, IsTrue, refl, sym, ap, ◌∙◌, subst, arith}
+use Rattle.std.specs.Prelude.{slice_get, codes, ◌==◌}
+use Rattle.std.proofs.lemmas.Bool.{cond-true, or_left, or_right}
+use Rattle.std.proofs.lemmas.List.{take-append-drop, take_all, length-map}
+use Rattle.std.proofs.lemmas.List.Sums.{fold_push}
+use Rattle.cdb_grid.specs.declared.tile.Tile.{Tile}
+use Rattle.cdb_source.specs.Reached.{IsTouched}
+use Rattle.cdb_source.specs.declared.source.Source.{Source}
+use Rattle.cdb_model.specs.Machine.{heads_of, sources_of}
+use Rattle.cdb_model.specs.Maps.{Text, FileMap, IsThere, put, has_slash, folder_above}
+use Rattle.cdb_model.specs.Names.{version_folder, record_path, source_path, path, sources_folder, metadata_folder, spell, fields_of_path, four}
+use Rattle.cdb_model.specs.Records.{head_file_text}
+use Rattle.cdb_model.specs.Stands.{ArePublications, IsVersionFile, Stands}
+use Rattle.cdb_files.specs.Disk.{State, IsImage}
+use Rattle.cdb_crash.specs.Leftovers.{IsOfVersion, HasAtMost, HasNext}
+use Rattle.cdb_crash.specs.Crash.{HasRoom, IsMid}
+use Rattle.cdb_crash.specs.Laws.{PlanKeeps}
+use Rattle.cdb_crash.specs.Plan.{File, Step, source_files, tile_file, files_of, record_of, folders_of, steps_of, after_step, with_files, with_synced, files_after, synced_after, WritesTo, IsMidAfter}
+use Rattle.cdb_crash.proofs.CallLaws.{begins_clean, path_calls, write-here}
+use Rattle.cdb_crash.proofs.Law.{stands_but}
+use Rattle.cdb_crash.proofs.Steps.{mid_room, write_step, folder_step, ready_step}
+use Rattle.cdb_crash.proofs.StoreLaws.{store_layout, file_under, next_local}
+use Rattle.cdb_crash.proofs.PlanFiles.{same_file, files_good, file_of_plan, few_files}
+use Rattle.cdb_crash.proofs.PlanLists.{Each, each-append, each-front, each-back, each-map, each-wider, each-all, each-once, Some_of, some-left, some-right, some-map, some-once, split_two, Writes_bytes, there_written, written, Syncs, Leaves, not_synced, are_synced}
+
+-- ---- how many steps
+source_files-count : (v number : ℕ) (sources : List Source) → length (source_files v number sources) ≡ length sources
+source_files-count v number [] = refl
+source_files-count v number (s ∷ sources) = ap suc (source_files-count v (number + 1) sources)
+
+step_count : (P : List (List Source)) (x : List Source) (tiles : List Tile)
+    → length (steps_of P x tiles) + 1 ≡ length x + length tiles + length (folders_of (files_of P x tiles)) + 2
+step_count P x tiles =
+    let v : ℕ = length P + 1 in
+    let all : List Source = sources_of (P ++ x ∷ []) in
+    let a = length-append (map Step.write (files_of P x tiles)) (map Step.sync (folders_of (files_of P x tiles)) ++ Step.write_and_sync (record_of P x tiles) ∷ []) in
+    let b = length-map (files_of P x tiles) Step.write in
+    let c = length-append (source_files (length P + 1) 1 x) (map (tile_file (length P + 1) (sources_of (P ++ x ∷ []))) tiles) in
+    let d = source_files-count (length P + 1) 1 x in
+    let e = length-map tiles (tile_file (length P + 1) (sources_of (P ++ x ∷ []))) in
+    let f = length-append (map Step.sync (folders_of (files_of P x tiles))) (Step.write_and_sync (record_of P x tiles) ∷ []) in
+    let g = length-map (folders_of (files_of P x tiles)) Step.sync in
+    omega (arith, a, b, c, d, e, f, g)
+
+-- ---- a step by its number
+none_some : {A : Type 0} (y : A) → None ≡ Some y → ⊥
+none_some {A = A} y e = let P : Option A → Type 0 = Gone in subst P e tt
+  where
+    Gone : Option A → Type 0
+    Gone None = Unit {0}
+    Gone (Some z) = ⊥
+
+some_is : {A : Type 0} (y z : A) → Some y ≡ Some z → y ≡ z
+some_is {A = A} y z e = ap value e
+  where
+    value : Option A → A
+    value None = y
+    value (Some w) = w
+
+record At {A : Type 0} (xs : List A) (j : ℕ) (y : A) : Type 0 where
+  pub rest : List A
+  pub split : xs ≡ take j xs ++ y ∷ rest
+  pub more : take (suc j) xs ≡ take j xs ++ y ∷ []
+
+at_number : {A : Type 0} (xs : List A) (j : ℕ) (y : A) → slice_get xs j ≡ Some y → At xs j y
+at_number [] j y e = absurd (none_some y e)
+at_number (x ∷ xs) zero y e = record { rest = xs; split = ap (λ z. z ∷ xs) (some_is x y e); more = ap (λ z. z ∷ []) (some_is x y e) }
+at_number {A = A} (x ∷ xs) (suc j) y e = up (at_number xs j y e)
+  where
+    up : At xs j y → At (x ∷ xs) (suc j) y
+    up a = record { rest = a.rest; split = ap (λ z. x ∷ z) a.split; more = ap (λ z. x ∷ z) a.more }
+
+-- ---- the record's folder is no folder of the other files
+has_slash_in : (a b : Text) → has_slash (a ++ 47 ∷ b) ≡ true
+has_slash_in [] b = or_left (47 == 47) (has_slash b) refl
+has_slash_in (c ∷ a) b = or_right (c == 47) (has_slash (a ++ 47 ∷ b)) (has_slash_in a b)
+
+keeps : (a b : Text) → (rest : Text) × (folder_above (a ++ 47 ∷ b) ≡ a ++ rest)
+unfolding folder_above
+keeps [] b = (folder_above (47 ∷ b), refl)
+keeps (c ∷ a) b =
+    let k = keeps a b in
+    (k.0, cond-true (has_slash (a ++ 47 ∷ b)) (c ∷ folder_above (a ++ 47 ∷ b)) [] (has_slash_in a b) ∙ ap (λ t. c ∷ t) k.1)
+
+tenth : Text → ℕ
+tenth t = get_or t 10 0
+
+record_tenth : (v : ℕ) → tenth (folder_above (record_path v)) ≡ 77
+unfolding tenth
+record_tenth v = ap tenth ((keeps (metadata_folder v) (codes "record")).1)
+
+source_tenth : (v n : ℕ) → tenth (folder_above (source_path v n)) ≡ 83
+unfolding tenth
+source_tenth v n = ap tenth ((keeps (sources_folder v) (83 ∷ four n)).1)
+
+tile_tenth : (v : ℕ) (t : Tile) → tenth (folder_above (path v t)) ≡ 84
+unfolding tenth
+tile_tenth v t = ap tenth ((keeps (version_folder v ++ codes "/Tiles") (spell (drop 2 (fields_of_path v t)) [])).1)
+
+apart_source : (v n : ℕ) → folder_above (record_path v) ≢ folder_above (source_path v n)
+apart_source v n e = let k = sym (record_tenth v) ∙ ap tenth e ∙ source_tenth v n in omega (arith, k)
+
+apart_tile : (v : ℕ) (t : Tile) → folder_above (record_path v) ≢ folder_above (path v t)
+apart_tile v t e = let k = sym (record_tenth v) ∙ ap tenth e ∙ tile_tenth v t in omega (arith, k)
+
+abbrev Apart : ℕ → File → Type 0
+Apart v file = folder_above (record_path v) ≢ folder_above file.path
+
+sources_apart : (v number : ℕ) (sources : List Source) → Each (Apart v) (source_files v number sources)
+sources_apart v number [] = tt
+sources_apart v number (s ∷ sources) = (apart_source v number, sources_apart v (number + 1) sources)
+
+files_apart : (P : List (List Source)) (x : List Source) (tiles : List Tile) → Each (Apart (length P + 1)) (files_of P x tiles)
+files_apart P x tiles = each-append (Apart (length P + 1)) (source_files (length P + 1) 1 x) (map (tile_file (length P + 1) (sources_of (P ++ x ∷ []))) tiles)
+    (sources_apart (length P + 1) 1 x)
+    (each-map (tile_file (length P + 1) (sources_of (P ++ x ∷ []))) (Apart (length P + 1)) tiles
+    (each-all (λ t. Apart (length P + 1) (tile_file (length P + 1) (sources_of (P ++ x ∷ [])) t)) (λ t. apart_tile (length P + 1) t) tiles))
+
+-- ---- kinds of steps
+abbrev IsWrite : Step → Type 0
+IsWrite (Step.write file) = Unit {0}
+IsWrite (Step.sync folder) = ⊥
+IsWrite (Step.write_and_sync file) = ⊥
+
+abbrev IsSync : Step → Type 0
+IsSync (Step.write file) = ⊥
+IsSync (Step.sync folder) = Unit {0}
+IsSync (Step.write_and_sync file) = ⊥
+
+write_leaves : (f : Text) (step : Step) → IsWrite step → Leaves f step
+write_leaves f (Step.write file) h = tt
+write_leaves f (Step.sync folder) h = absurd h
+write_leaves f (Step.write_and_sync file) h = absurd h
+
+-- No folder in which the step writes is synced by earlier steps.
+abbrev Fresh : List Step → Step → Type 0
+Fresh done (Step.write file) = synced_after done (folder_above file.path) ≡ false
+Fresh done (Step.sync folder) = Unit {0}
+Fresh done (Step.write_and_sync file) = synced_after done (folder_above file.path) ≡ false
+
+module _ (P : List (List Source)) (x : List Source) (tiles : List Tile) (list : ArePublications (P ++ x ∷ [])) (touched : IsTouched (heads_of x) tiles) where
+  abbrev writes : List Step
+  writes = map Step.write (files_of P x tiles)
+
+  abbrev syncs : List Step
+  syncs = map Step.sync (folders_of (files_of P x tiles))
+
+  abbrev last : Step
+  last = Step.write_and_sync (record_of P x tiles)
+
+  -- ---- what the steps write is files of the version
+  abbrev IsGood : Step → Type 0
+  IsGood (Step.write file) = IsVersionFile P x tiles file.path file.bytes
+  IsGood (Step.sync folder) = Unit {0}
+  IsGood (Step.write_and_sync file) = IsVersionFile P x tiles file.path file.bytes
+
+  plan_good : Each IsGood (steps_of P x tiles)
+  plan_good = each-append IsGood writes (syncs ++ last ∷ []) (each-map Step.write IsGood (files_of P x tiles) (files_good P x tiles touched))
+      (each-append IsGood syncs (last ∷ []) (each-map Step.sync IsGood (folders_of (files_of P x tiles)) (each-all (λ folder. Unit {0}) (λ folder. tt) (folders_of (files_of P x tiles))))
+      (IsVersionFile.of_record, tt))
+
+  good_written : (steps : List Step) (q : Text) → Each IsGood steps → Some_of (WritesTo q) steps → (bytes : List ℕ) × IsVersionFile P x tiles q bytes
+  good_written [] q good some = absurd some
+  good_written (Step.write file ∷ steps) q good (inl e) = let F : Text → Type 0 = λ p. IsVersionFile P x tiles p file.bytes in (file.bytes, subst F (sym e) (good.0))
+  good_written (Step.write file ∷ steps) q good (inr some) = good_written steps q (good.1) some
+  good_written (Step.sync folder ∷ steps) q good (inl e) = absurd e
+  good_written (Step.sync folder ∷ steps) q good (inr some) = good_written steps q (good.1) some
+  good_written (Step.write_and_sync file ∷ steps) q good (inl e) = let F : Text → Type 0 = λ p. IsVersionFile P x tiles p file.bytes in (file.bytes, subst F (sym e) (good.0))
+  good_written (Step.write_and_sync file ∷ steps) q good (inr some) = good_written steps q (good.1) some
+
+  front_good : (done more : List Step) → steps_of P x tiles ≡ done ++ more → Each IsGood done
+  front_good done more e = let G : List Step → Type 0 = Each IsGood in each-front IsGood done more (subst G e plan_good)
+
+  few : (done more : List Step) → steps_of P x tiles ≡ done ++ more → HasAtMost 65535 (length P + 1) (files_after done)
+  few done more e = few_files P x tiles (files_after done) list (λ q there. good_written done q (front_good done more e) (there_written done q there))
+
+  -- ---- no file is written into a synced folder
+  fresh : (done : List Step) (y : Step) (rest : List Step) → steps_of P x tiles ≡ done ++ y ∷ rest → Fresh done y
+  fresh done y rest e = in_two (split_two writes (syncs ++ last ∷ []) done y rest e)
+    where
+      writes_only : Each IsWrite writes
+      writes_only = each-map Step.write IsWrite (files_of P x tiles) (each-all (λ file. Unit {0}) (λ file. tt) (files_of P x tiles))
+
+      syncs_only : Each IsSync syncs
+      syncs_only = each-map Step.sync IsSync (folders_of (files_of P x tiles)) (each-all (λ folder. Unit {0}) (λ folder. tt) (folders_of (files_of P x tiles)))
+
+      not_yet : (done : List Step) (y : Step) → ((f : Text) → synced_after done f ≡ false) → Fresh done y
+      not_yet done (Step.write file) none = none (folder_above file.path)
+      not_yet done (Step.sync folder) none = tt
+      not_yet done (Step.write_and_sync file) none = none (folder_above file.path)
+
+      of_sync : (done : List Step) (y : Step) → IsSync y → Fresh done y
+      of_sync done (Step.write file) h = absurd h
+      of_sync done (Step.sync folder) h = tt
+      of_sync done (Step.write_and_sync file) h = absurd h
+
+      at_last : (done more : List Step) (y : Step) (rest : List Step) → done ≡ writes ++ (syncs ++ more) → last ∷ [] ≡ more ++ y ∷ rest → Fresh done y
+      at_last done [] y rest a b =
+          let Y : Step → Type 0 = λ z. Fresh done z in
+          let D : List Step → Type 0 = λ ds. synced_after ds (folder_above (record_path (length P + 1))) ≡ false in
+          subst Y (first last y [] rest b) (subst D (sym a) (not_synced (writes ++ (syncs ++ [])) (folder_above (record_path (length P + 1)))
+          (each-append (Leaves (folder_above (record_path (length P + 1)))) writes (syncs ++ [])
+          (each-wider IsWrite (Leaves (folder_above (record_path (length P + 1)))) (write_leaves (folder_above (record_path (length P + 1)))) writes writes_only)
+          (each-append (Leaves (folder_above (record_path (length P + 1)))) syncs [] syncs_apart tt))))
+        where
+          first : (a b : Step) (xs ys : List Step) → a ∷ xs ≡ b ∷ ys → a ≡ b
+          first a b xs ys e = ap head e
+            where
+              head : List Step → Step
+              head [] = a
+              head (z ∷ zs) = z
+
+          syncs_apart : Each (Leaves (folder_above (record_path (length P + 1)))) syncs
+          syncs_apart = each-map Step.sync (Leaves (folder_above (record_path (length P + 1)))) (folders_of (files_of P x tiles))
+              (each-once (λ folder. folder_above (record_path (length P + 1)) ≢ folder) (map (λ (file : File). folder_above file.path) (files_of P x tiles))
+              (each-map (λ (file : File). folder_above file.path) (λ folder. folder_above (record_path (length P + 1)) ≢ folder) (files_of P x tiles) (files_apart P x tiles)))
+      at_last done (z ∷ more) y rest a b = absurd (let n = ap length b in omega (arith, n, length-append more (y ∷ rest)))
+
+      in_tail : (more : List Step) → done ≡ writes ++ more → ((k : List Step) × (syncs ≡ more ++ y ∷ k)) ⊎ ((k : List Step) × (more ≡ syncs ++ k) × (last ∷ [] ≡ k ++ y ∷ rest)) → Fresh done y
+      in_tail more a (inl (k, is)) =
+          let S : List Step → Type 0 = Each IsSync in of_sync done y ((each-back IsSync more (y ∷ k) (subst S is syncs_only)).0)
+      in_tail more a (inr (k, is, left)) = at_last done k y rest (a ∙ ap (λ t. writes ++ t) is) left
+
+      in_two : ((more : List Step) × (writes ≡ done ++ y ∷ more)) ⊎ ((more : List Step) × (done ≡ writes ++ more) × (syncs ++ last ∷ [] ≡ more ++ y ∷ rest)) → Fresh done y
+      in_two (inl (more, is)) = let W : List Step → Type 0 = Each IsWrite in
+          not_yet done y (λ f. not_synced done f (each-wider IsWrite (Leaves f) (write_leaves f) done (each-front IsWrite done (y ∷ more) (subst W is writes_only))))
+      in_two (inr (more, is, left)) = in_tail more is (split_two syncs (last ∷ []) more y rest left)
+
+  -- ---- one step more
+  one_more : (done : List Step) (y : Step) (s : State) → IsImage s s.present → IsGood y → Fresh done y → HasAtMost 65535 (length P + 1) (files_after done)
+      → IsMid Stands P (files_after done) (synced_after done) s → IsMid Stands P (with_files (files_after done) y) (with_synced (synced_after done) y) (after_step y s)
+  one_more done (Step.write file) s here good fresh few mid =
+      write_step Stands HasNext head_file_text store_layout P (files_after done) (synced_after done) s (folder_above file.path) file.path file.bytes here mid few
+      (file_under P x tiles file.path file.bytes good) fresh
+  one_more done (Step.sync folder) s here good fresh few mid = folder_step Stands HasNext head_file_text store_layout P (files_after done) (synced_after done) s folder here mid
+  one_more done (Step.write_and_sync file) s here good fresh few mid =
+      folder_step Stands HasNext head_file_text store_layout P (put (files_after done) file.path (Some file.bytes)) (synced_after done) _ (folder_above file.path)
+      (write-here (folder_above file.path) file.path file.bytes s here)
+      (write_step Stands HasNext head_file_text store_layout P (files_after done) (synced_after done) s (folder_above file.path) file.path file.bytes here mid few
+      (file_under P x tiles file.path file.bytes good) fresh)
+
+  pub lead : (done : List Step) (y : Step) (rest : List Step) (s : State) → steps_of P x tiles ≡ done ++ y ∷ rest → IsImage s s.present
+      → IsMid Stands P (files_after done) (synced_after done) s → IsMid Stands P (files_after (done ++ y ∷ [])) (synced_after (done ++ y ∷ [])) (after_step y s)
+  lead done y rest s e here mid =
+      let F : FileMap → Type 0 = λ m. IsMid Stands P m (synced_after (done ++ y ∷ [])) (after_step y s) in
+      let S : (Text → Bool) → Type 0 = λ f. IsMid Stands P (with_files (files_after done) y) f (after_step y s) in
+      let G : List Step → Type 0 = Each IsGood in
+      subst F (sym (fold_push with_files (λ path. None) done y)) (subst S (sym (fold_push with_synced (λ folder. false) done y))
+      (one_more done y s here ((each-back IsGood done (y ∷ rest) (subst G e plan_good)).0) (fresh done y rest e) (few done (y ∷ rest) e) mid))
+
+  -- ---- all steps
+  writes_it : (q : Text) (bytes : List ℕ) → IsVersionFile P x tiles q bytes → Some_of (WritesTo q) (steps_of P x tiles)
+  writes_it q bytes file = of (file_of_plan P x tiles touched q bytes file)
+    where
+      of : (q ≡ record_path (length P + 1)) ⊎ Some_of (λ file. q ≡ file.path) (files_of P x tiles) → Some_of (WritesTo q) (steps_of P x tiles)
+      of (inl e) = some-right (WritesTo q) writes (syncs ++ last ∷ []) (some-right (WritesTo q) syncs (last ∷ []) (inl e))
+      of (inr some) = some-left (WritesTo q) writes (syncs ++ last ∷ []) (some-map Step.write (WritesTo q) (files_of P x tiles) some)
+
+  syncs_it : (q : Text) (bytes : List ℕ) → IsVersionFile P x tiles q bytes → Some_of (Syncs (folder_above q)) (steps_of P x tiles)
+  syncs_it q bytes file = of (file_of_plan P x tiles touched q bytes file)
+    where
+      folders : (files : List File) → Some_of (λ file. q ≡ file.path) files → Some_of (λ file. folder_above q ≡ folder_above file.path) files
+      folders [] some = absurd some
+      folders (f ∷ files) (inl e) = inl (ap folder_above e)
+      folders (f ∷ files) (inr some) = inr (folders files some)
+
+      of : (q ≡ record_path (length P + 1)) ⊎ Some_of (λ file. q ≡ file.path) (files_of P x tiles) → Some_of (Syncs (folder_above q)) (steps_of P x tiles)
+      of (inl e) = some-right (Syncs (folder_above q)) writes (syncs ++ last ∷ []) (some-right (Syncs (folder_above q)) syncs (last ∷ []) (inl (ap folder_above e)))
+      of (inr some) = some-right (Syncs (folder_above q)) writes (syncs ++ last ∷ []) (some-left (Syncs (folder_above q)) syncs (last ∷ [])
+          (some-map Step.sync (Syncs (folder_above q)) (folders_of (files_of P x tiles))
+          (some-once (folder_above q) (map (λ (file : File). folder_above file.path) (files_of P x tiles))
+          (some-map (λ (file : File). folder_above file.path) (λ folder. folder_above q ≡ folder) (files_of P x tiles) (folders (files_of P x tiles) some)))))
+
+  same_bytes : (q : Text) (bytes : List ℕ) → IsVersionFile P x tiles q bytes → (step : Step) → IsGood step → Writes_bytes q bytes step
+  same_bytes q bytes file (Step.write other) good = λ e. same_file P x tiles other.path q other.bytes bytes good file (sym e)
+  same_bytes q bytes file (Step.sync folder) good = tt
+  same_bytes q bytes file (Step.write_and_sync other) good = λ e. same_file P x tiles other.path q other.bytes bytes good file (sym e)
+
+  plan_complete : HasNext P x (files_after (steps_of P x tiles))
+  plan_complete = record {
+    publications = list;
+    files = record {
+      tiles = tiles;
+      touched = touched;
+      there = λ q bytes file. written (steps_of P x tiles) q bytes (each-wider IsGood (Writes_bytes q bytes) (same_bytes q bytes file) (steps_of P x tiles) plan_good) (writes_it q bytes file);
+      only = λ q under there. good_written (steps_of P x tiles) q plan_good (there_written (steps_of P x tiles) q there);
+    };
+  }
+
+  all_synced : (q : Text) → IsThere (files_after (steps_of P x tiles) q) → IsTrue (synced_after (steps_of P x tiles) (folder_above q))
+  all_synced q there = of (good_written (steps_of P x tiles) q plan_good (there_written (steps_of P x tiles) q there))
+    where
+      of : (bytes : List ℕ) × IsVersionFile P x tiles q bytes → IsTrue (synced_after (steps_of P x tiles) (folder_above q))
+      of (bytes, file) = are_synced (steps_of P x tiles) (folder_above q) (syncs_it q bytes file)
+
+  good_under : (step : Step) → IsGood step → (q : Text) → WritesTo q step → IsOfVersion (length P + 1) q
+  good_under (Step.write file) good q e = let U : Text → Type 0 = IsOfVersion (length P + 1) in subst U (sym e) (file_under P x tiles file.path file.bytes good)
+  good_under (Step.sync folder) good q e = absurd e
+  good_under (Step.write_and_sync file) good q e = let U : Text → Type 0 = IsOfVersion (length P + 1) in subst U (sym e) (file_under P x tiles file.path file.bytes good)
+
+  step_under : (number : ℕ) (step : Step) → slice_get (steps_of P x tiles) number ≡ Some step → (path : Text) → WritesTo path step → IsOfVersion (length P + 1) path
+  step_under number step at = let G : List Step → Type 0 = Each IsGood in
+      good_under step ((each-back IsGood (take number (steps_of P x tiles)) (step ∷ (at_number (steps_of P x tiles) number step at).rest)
+      (subst G (at_number (steps_of P x tiles) number step at).split plan_good)).0)
+
+  step_room : (number : ℕ) (s : State) (path : Text) → IsMidAfter P x tiles number s → HasRoom Stands P path s
+  step_room number s path mid = mid_room Stands HasNext head_file_text store_layout P (files_after (take number (steps_of P x tiles))) (synced_after (take number (steps_of P x tiles))) s path mid
+      (few (take number (steps_of P x tiles)) (drop number (steps_of P x tiles)) (sym (take-append-drop number (steps_of P x tiles))))
+
+  pub plan_keeps : PlanKeeps P x tiles
+  plan_keeps = record {
+    count = step_count P x tiles;
+    begins = λ s here clean. begins_clean Stands P (λ folder. false) s here clean;
+    under = step_under;
+    room = step_room;
+    calls = λ number step s at here mid path writes. path_calls (λ m. Stands m P) path s
+        (stands_but Stands HasNext head_file_text store_layout P s path here (step_room number s path mid) (inr (step_under number step at path writes)));
+    step = λ number step s at here mid. let D : List Step → Type 0 = λ ds. IsMid Stands P (files_after ds) (synced_after ds) (after_step step s) in
+        let N : ℕ → Type 0 = λ n. IsMidAfter P x tiles n (after_step step s) in
+        let next : suc number ≡ number + 1 = omega arith in
+        subst N next (subst D (sym (at_number (steps_of P x tiles) number step at).more)
+        (lead (take number (steps_of P x tiles)) step (at_number (steps_of P x tiles) number step at).rest s (at_number (steps_of P x tiles) number step at).split here mid));
+    ready = λ s here mid. let D : List Step → Type 0 = λ ds. IsMid Stands P (files_after ds) (synced_after ds) s in
+        ready_step Stands HasNext head_file_text store_layout P x (files_after (steps_of P x tiles)) (synced_after (steps_of P x tiles)) s here
+        (subst D (take_all (length (steps_of P x tiles)) (steps_of P x tiles) (omega arith)) mid)
+        (few (steps_of P x tiles) [] (sym (append_nil (steps_of P x tiles)))) (λ q under there. all_synced q there)
+        (λ m same. next_local P x (files_after (steps_of P x tiles)) m plan_complete same);
+  }
+    where
+      append_nil : (steps : List Step) → steps ++ [] ≡ steps
+      append_nil [] = refl
+      append_nil (step ∷ steps) = ap (λ t. step ∷ t) (append_nil steps)

@@ -1,0 +1,5 @@
+use Rattle.cdb_crash.proofs.Own as own
+use Rattle.cdb_crash.proofs.laws.one_list.Goals as goal
+
+pub returns : goal.returns
+returns c = own.one_list

@@ -1,0 +1,5 @@
+pub mod Leftovers
+pub mod Crash
+pub mod Plan
+pub mod Recovery
+pub mod Laws

@@ -1,0 +1,4 @@
+//! What a crash leaves of a store: definitions, and their laws.
+#![tactic(auto)]
+
+pub mod laws;
