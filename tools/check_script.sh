@@ -1,0 +1,111 @@
+#!/usr/bin/env bash
+# Runs the program over a script of ten thousand lines made from a seed (random bytes, lines that are half
+# right, right ones, no `quit`) and counts its answers; then times publications of many tiles against
+# publications of few, and the tiles of a level. Needs `rt`, which builds the program crates/cdb_cli, and
+# python3. The seed is the first argument, or 1.
+set -u
+cd "$(dirname "$0")/../crates/cdb_cli" || exit 2
+
+if ! command -v python3 >/dev/null; then
+    echo "skipped: python3 is missing"
+    exit 0
+fi
+
+folder=$(mktemp -d)
+trap 'rm -rf "$folder"' EXIT
+
+rt run <stdin >"$folder/worked" 2>"$folder/log" || { cat "$folder/log"; exit 2; }
+program=$(find -L out -type f -perm -u+x -newer stdin -name 'cdb_cli*' | head -n 1)
+[ -n "$program" ] || { echo "the built program isn't found"; exit 2; }
+
+python3 - "$program" "${1:-1}" <<'PYTHON'
+import random
+import subprocess
+import sys
+import time
+
+program, seed = sys.argv[1], int(sys.argv[2])
+random.seed(seed)
+
+NAMES = [
+    b"N46E007_D001_S001_T001_LC10_U0_R0.tif", b"N46E007_D001_S001_T001_LC09_U0_R0.tif",
+    b"N46E007_D002_S001_T001_LC10_U0_R0.tif", b"N46E007_D002_S001_T002_LC10_U0_R0.tif",
+    b"N50E006_D001_S001_T001_LC10_U0_R0.tif", b"N46E007_D005_S001_T001_LC10_U0_R0.tif",
+    b"N46E007_D001_S001_T001_LC11_U0_R0.tif", b"N50E007_D001_S001_T001_LC10_U0_R0.tif",
+]
+
+
+def number():
+    return random.choice([b"0", b"1", b"-1", b"46", b"7", b"007", b"1/2", b"1/7", b"1/0", b"-32768", b"32768", b"999999999"])
+
+
+def right():
+    level = random.randint(-10, -6)
+    step = b"1/%d" % 2 ** (level + 10)
+    rows, cols = random.randint(1, 4), random.randint(1, 4)
+    posts = b" ".join(b"%d" % random.randint(-500, 4000) for _ in range(rows * cols))
+    return random.choice([
+        b"inline elev %d %d %d %s %s %d %d %s" % (level, random.randint(-60, 60), random.randint(-100, 100), step, step, rows, cols, posts),
+        b"publish", b"step all", b"open", b"versions", b"close %d" % random.randint(1, 80),
+        b"tile %d %s" % (random.randint(1, 80), random.choice(NAMES)), b"",
+    ])
+
+
+def half_right():
+    words = right().split(b" ")
+    at = random.randrange(len(words))
+    words[at] = random.choice([b"", number(), words[at] + b"x", words[at][:-1]])
+    return b" ".join(words)
+
+
+def noise():
+    length = random.choice([1, 5, 40, 4096, 4097])
+    return bytes(random.choice([c for c in range(256) if c != 10]) for _ in range(length))
+
+
+def line():
+    made = random.choice([right, right, right, half_right, noise])()
+    return b"quit " if made == b"quit" else made
+
+
+lines = [line() for _ in range(10_000)]
+run = subprocess.run([program], input=b"\n".join(lines) + b"\n", capture_output=True)
+answers, at, out = 0, 0, run.stdout
+while at < len(out):
+    end = out.index(b"\n", at)
+    words = out[at:end].split(b" ")
+    at = end + 1 + (int(words[1]) if words[0] == b"tile" else 0)
+    answers += 1
+wanted = sum(1 for made in lines if made)
+print(f"seed {seed}: status {run.returncode}, {answers} answers to {wanted} lines that aren't blank")
+if run.returncode != 0 or answers != wanted:
+    sys.exit(1)
+
+
+def seconds(script):
+    begin = time.time()
+    subprocess.run([program], input=script, capture_output=True, check=True)
+    return time.time() - begin
+
+
+def least(script):
+    return min(seconds(script) for _ in range(3))
+
+
+publish = b"publish\nstep all\n"
+many = b"inline elev 11 46 7 1 1 1 2 5 6\n" + publish
+few = b"inline elev -10 46 7 1 1 1 1 5\n" + publish
+empty = least(b"")
+a, b = (least(many * 100) - empty) / (100 * 12381), (least(few * 4000) - empty) / (4000 * 3)
+print(f"a publication of 12,381 tiles: {a * 1e6:.3f} microseconds a tile; of 3 tiles: {b * 1e6:.3f}; ratio {a / b:.2f}")
+
+posts = b" ".join(b"%d" % k for k in range(64))
+level0 = b"inline elev 0 46 7 1/1024 1/1024 8 8 %s\npublish\nstep all\nopen\n" % posts
+tile = least(level0 + b"tile 1 N46E007_D001_S001_T001_L00_U0_R0.tif\n") - least(level0)
+print(f"a tile of level 0 over one source of 64 posts: {tile:.3f} seconds")
+
+finest = b"inline elev 23 403726925823/8589934592 68719476735/8589934592 1 1 1 1 7\npublish\nstep all\nopen\n"
+for name in (b"N46E007_D001_S001_T001_LC10_U0_R0.tif", b"N46E007_D001_S001_T001_L23_U8388607_R8388607.tif"):
+    tile = least(finest + b"tile 1 " + name + b"\n") - least(finest)
+    print(f"{name.decode()} over one post at level 23: {tile:.3f} seconds")
+PYTHON
