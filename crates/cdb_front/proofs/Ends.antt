@@ -4,12 +4,12 @@ use Rattle.std.specs.Io.KnownBytes.{Appends, Keeps, Consumes, IsAtEnd}
 use Rattle.std.proofs.KnownBytes.{Appends-nil, Appends-trans, Consumes-nil, Consumes-trans, Consumes-kept}
 use Rattle.cdb_model.specs.Text.{Text}
 use Rattle.cdb_model.specs.Maps.{FileMap}
-use Rattle.cdb_model.specs.Machine.{State, start}
-use Rattle.cdb_model.specs.Run.{texts_of}
+use Rattle.cdb_model.specs.Machine.{State, Answer, start}
+use Rattle.cdb_model.specs.Run.{text_of, texts_of}
 use Rattle.cdb_front.specs.Devices.{WritesPart}
 use Rattle.cdb_front.specs.Progress.{Sofar, Answered, IsQuit, Broken, UpTo}
-use Rattle.cdb_front.specs.Reading.{Reading, Stops}
-use Rattle.cdb_front.specs.Outcome.{Outcome, status_line, Aims, Writes, Breaks, EndsWith, is_whole, is_part}
+use Rattle.cdb_front.specs.Reading.{Reading, Stops, WritesAnswers}
+use Rattle.cdb_front.specs.Outcome.{Outcome, status_line, Aims, Writes, IsLast, IsPartOf, Breaks, EndsWith, is_whole, is_part}
 use Rattle.cdb_front.specs.declared.status.Status.{Status}
 use Rattle.cdb_front.specs.declared.status.Status.TheVariants.{Done, Memory, InputFault, OutputFault, TooLong}
 use Rattle.cdb_front.proofs.Progress.{sofar_begins}
@@ -151,13 +151,13 @@ stops_broken tells files before faults after left left' left'' written written' 
       aims = λ e. cc;
       heard = b.lines ++ b.rest ∷ [];
       hears = refl;
-      answers = b.answers;
+      answers = b.whole ++ b.answer ∷ [];
       state = b.state;
       run = b.run;
       counted = b.counted;
-      wrote = b.written.part;
-      appended = b.written.appended;
-      writes = (b.written.rest, b.written.joined, b.written.short);
+      wrote = texts_of b.whole ++ b.part;
+      appended = b.appended;
+      writes = record { whole = b.whole; last = text_of b.answer; is_last = (b.answer, refl, refl); part = b.part; rest = b.unwritten; joined = b.joined; short = b.short; wrote_is = refl };
       ends = (fewer, inr (up.back, refl));
     }
 
@@ -218,13 +218,13 @@ stops_broken_at_end tells files before faults after left left' left'' written wr
       aims = λ e. cc;
       heard = b.lines ++ b.rest ∷ [];
       hears = refl;
-      answers = b.answers;
+      answers = b.whole ++ b.answer ∷ [];
       state = b.state;
       run = b.run;
       counted = b.counted;
-      wrote = b.written.part;
-      appended = b.written.appended;
-      writes = (b.written.rest, b.written.joined, b.written.short);
+      wrote = texts_of b.whole ++ b.part;
+      appended = b.appended;
+      writes = record { whole = b.whole; last = text_of b.answer; is_last = (b.answer, refl, refl); part = b.part; rest = b.unwritten; joined = b.joined; short = b.short; wrote_is = refl };
       ends = (subst (λ n. n < 2 ^ 32) r.count room, inl (refl, end));
     }
 
@@ -238,28 +238,20 @@ aimed InputFault aim other a = a
 aimed OutputFault aim other a = absurd (other refl)
 aimed TooLong aim other a = a
 
-whole : (status : Status) (text wrote : Text) → status ≢ OutputFault → Writes status text wrote → wrote ≡ text
-whole Done text wrote other w = w
-whole Memory text wrote other w = w
-whole InputFault text wrote other w = w
-whole OutputFault text wrote other w = absurd (other refl)
-whole TooLong text wrote other w = w
+whole : (status aim : Status) (answers : List Answer) (wrote : Text) → status ≢ OutputFault → WritesAnswers status aim answers wrote → wrote ≡ texts_of answers
+whole Done aim answers wrote other w = w
+whole Memory aim answers wrote other w = w
+whole InputFault aim answers wrote other w = w
+whole OutputFault aim answers wrote other w = absurd (other refl)
+whole TooLong aim answers wrote other w = w
 
-more_left : (xs ys : Text) → xs ≢ [] → xs ++ ys ≢ []
-more_left [] ys some e = some refl
-more_left (x ∷ xs) ys some e = cc
-
--- after the line of the status what was written is the whole text, or a beginning of it as before
-with_line : (status aim : Status) (text wrote : Text) → Aims status aim → Writes status text wrote → Writes status (text ++ status_line aim) (wrote ++ status_line status)
-with_line Done aim text wrote a w = ap (λ l. wrote ++ l) (ap status_line (sym a)) ∙ ap (λ l. l ++ status_line aim) w
-with_line Memory aim text wrote a w = ap (λ l. wrote ++ l) (ap status_line (sym a)) ∙ ap (λ l. l ++ status_line aim) w
-with_line InputFault aim text wrote a w = ap (λ l. wrote ++ l) (ap status_line (sym a)) ∙ ap (λ l. l ++ status_line aim) w
-with_line OutputFault aim text wrote a w = (
-  w.0 ++ status_line aim,
-  ap (λ l. l ++ status_line aim) w.1 ∙ append_assoc wrote w.0 (status_line aim) ∙ ap (λ l. l ++ (w.0 ++ status_line aim)) (sym (append-nil wrote)),
-  more_left w.0 (status_line aim) w.2,
-)
-with_line TooLong aim text wrote a w = ap (λ l. wrote ++ l) (ap status_line (sym a)) ∙ ap (λ l. l ++ status_line aim) w
+-- after the line of the status all is written whole, or what is last in part as before
+with_line : (status aim : Status) (answers : List Answer) (wrote : Text) → Aims status aim → WritesAnswers status aim answers wrote → Writes status aim answers (wrote ++ status_line status)
+with_line Done aim answers wrote a w = ap (λ l. wrote ++ l) (ap status_line (sym a)) ∙ ap (λ l. l ++ status_line aim) w
+with_line Memory aim answers wrote a w = ap (λ l. wrote ++ l) (ap status_line (sym a)) ∙ ap (λ l. l ++ status_line aim) w
+with_line InputFault aim answers wrote a w = ap (λ l. wrote ++ l) (ap status_line (sym a)) ∙ ap (λ l. l ++ status_line aim) w
+with_line OutputFault aim answers wrote a w = subst (IsPartOf aim answers) (sym (append-nil wrote)) w
+with_line TooLong aim answers wrote a w = ap (λ l. wrote ++ l) (ap status_line (sym a)) ∙ ap (λ l. l ++ status_line aim) w
 
 -- the line of the status was written
 pub outcome_ok : (tells : Type 0) (files : FileMap) (before faults : ℕ) (left left' written written' written'' : Option (List ℕ)) (status : Status)
@@ -284,16 +276,16 @@ outcome_ok tells files before faults left left' written written' written'' statu
       counted = s.counted;
       wrote = s.wrote ++ status_line status;
       appended = Appends-trans written written' written'' s.wrote (status_line status) s.appended line;
-      writes = with_line status s.aim (texts_of s.answers) s.wrote s.aims s.writes;
+      writes = with_line status s.aim s.answers s.wrote s.aims s.writes;
       ends = s.ends;
     }
 
 -- the line of the status wasn't written whole
 pub outcome_fault : (tells : Type 0) (files : FileMap) (before faults : ℕ) (left left' written written' written'' : Option (List ℕ)) (status : Status) → status ≢ OutputFault
-    → (s : Stops tells files before faults left left' written written' status) → Breaks s.aim left' s.read s.unread s.rest → WritesPart written' written'' (status_line status) → Outcome tells files before faults left left' written written'' OutputFault
-outcome_fault tells files before faults left left' written written' written'' status other s breaks part =
+    → (s : Stops tells files before faults left left' written written' status) → Breaks s.aim left' s.read s.unread s.rest → IsLast s.aim s.answers s.answers (status_line s.aim) → WritesPart written' written'' (status_line status) → Outcome tells files before faults left left' written written'' OutputFault
+outcome_fault tells files before faults left left' written written' written'' status other s breaks last part =
     let e = aimed status s.aim other s.aims in
-    let w = whole status (texts_of s.answers) s.wrote other s.writes in
+    let w = whole status s.aim s.answers s.wrote other s.writes in
     record {
       read = s.read;
       unread = s.unread;
@@ -313,11 +305,16 @@ outcome_fault tells files before faults left left' written written' written'' st
       counted = s.counted;
       wrote = s.wrote ++ part.part;
       appended = Appends-trans written written' written'' s.wrote part.part s.appended part.appended;
-      writes = (
-        part.rest,
-        ap (λ l. l ++ status_line s.aim) (sym w) ∙ ap (λ l. s.wrote ++ l) (ap status_line e ∙ part.joined) ∙ sym (append_assoc s.wrote part.part part.rest),
-        part.short,
-      );
+      writes = record {
+        whole = s.answers;
+        last = status_line s.aim;
+        is_last = last;
+        part = part.part;
+        rest = part.rest;
+        joined = ap status_line e ∙ part.joined;
+        short = part.short;
+        wrote_is = ap (λ l. l ++ part.part) w;
+      };
       ends = breaks;
     }
 
@@ -332,12 +329,12 @@ pub outcome_err : (tells : Type 0) (files : FileMap) (before faults : ℕ) (left
     → Stops tells files before faults left left' written written' status → WritesPart written' written'' (status_line status) → Outcome tells files before faults left left' written written'' OutputFault
 outcome_err tells files before faults left left' written written' written'' Done s part = absurd (no_part written' written'' part)
 outcome_err tells files before faults left left' written written' written'' Memory s part =
-    outcome_fault tells files before faults left left' written written' written'' Memory (λ e. cc) s (subst (λ (a : Status). Breaks a left' s.read s.unread s.rest) (sym s.aims) s.ends) part
+    outcome_fault tells files before faults left left' written written' written'' Memory (λ e. cc) s (subst (λ (a : Status). Breaks a left' s.read s.unread s.rest) (sym s.aims) s.ends) (subst (λ (a : Status). IsLast a s.answers s.answers (status_line a)) (sym s.aims) (refl, refl)) part
 outcome_err tells files before faults left left' written written' written'' InputFault s part =
-    outcome_fault tells files before faults left left' written written' written'' InputFault (λ e. cc) s (subst (λ (a : Status). Breaks a left' s.read s.unread s.rest) (sym s.aims) s.ends) part
+    outcome_fault tells files before faults left left' written written' written'' InputFault (λ e. cc) s (subst (λ (a : Status). Breaks a left' s.read s.unread s.rest) (sym s.aims) s.ends) (subst (λ (a : Status). IsLast a s.answers s.answers (status_line a)) (sym s.aims) (refl, refl)) part
 outcome_err tells files before faults left left' written written' written'' OutputFault s part = absurd (no_part written' written'' part)
 outcome_err tells files before faults left left' written written' written'' TooLong s part =
-    outcome_fault tells files before faults left left' written written' written'' TooLong (λ e. cc) s (subst (λ (a : Status). Breaks a left' s.read s.unread s.rest) (sym s.aims) s.ends) part
+    outcome_fault tells files before faults left left' written written' written'' TooLong (λ e. cc) s (subst (λ (a : Status). Breaks a left' s.read s.unread s.rest) (sym s.aims) s.ends) (subst (λ (a : Status). IsLast a s.answers s.answers (status_line a)) (sym s.aims) (refl, refl)) part
 
 -- a run that stopped, after the line of its status
 pub outcome_end : (tells : Type 0) (files : FileMap) (before faults : ℕ) (left left' written written' written'' : Option (List ℕ)) (status result : Status)

@@ -24,7 +24,6 @@ use Rattle.cdb_front.specs.declared.heard.Asked.{Asked}
 use Rattle.cdb_front.specs.declared.heard.Asked.TheVariants as asked
 use Rattle.cdb_front.specs.declared.fed.Fed.{Fed}
 use Rattle.cdb_front.specs.declared.fed.Fed.TheVariants as fed
-use Rattle.cdb_front.proofs.Writing.{second_breaks}
 
 -- ---- runs
 
@@ -233,13 +232,18 @@ event_broken tells files base read old now new faults after state next kept s a 
     record {
       lines = s.lines;
       rest = s.rest;
-      answers = s.answers ++ speaks.answer ∷ [];
+      whole = s.answers;
+      answer = speaks.answer;
       state = next;
       cut = s.cut;
       no_quit = s.no_quit;
       run = more_run tells files base read old now faults state next kept speaks.answer s a b speaks.turn;
       counted = Counts-more base faults after s.answers speaks.answer s.counted speaks.counted;
-      written = subst (WritesPart old new) (sym (texts_of-more s.answers speaks.answer)) (second_breaks old now new (texts_of s.answers) (text_of speaks.answer) s.appended speaks.written);
+      part = speaks.written.part;
+      unwritten = speaks.written.rest;
+      joined = speaks.written.joined;
+      short = speaks.written.short;
+      appended = Appends-trans old now new (texts_of s.answers) speaks.written.part s.appended speaks.written.appended;
     }
 
 -- ---- a piece

@@ -8,7 +8,7 @@ use Rattle.cdb_model.specs.Commands as said
 use Rattle.cdb_model.specs.Machine.{State, start}
 use Rattle.cdb_model.specs.Machine as machine
 use Rattle.cdb_model.specs.Commands.{line_command}
-use Rattle.cdb_model.specs.Run.{Run, Cut, HaveNoFeed, HaveNoQuit, commands_of, texts_of}
+use Rattle.cdb_model.specs.Run.{Run, Cut, HaveNoFeed, HaveNoQuit, commands_of, text_of, texts_of}
 use Rattle.cdb_front.specs.Devices.{WritesPart}
 use Rattle.cdb_front.specs.Progress.{Holds, Counts}
 use Rattle.cdb_front.specs.declared.status.Status.{Status}
@@ -36,10 +36,26 @@ abbrev pub Aims : Status → Status → Type 0
 Aims OutputFault aim = aim ≢ OutputFault
 Aims status aim = aim ≡ status
 
--- the text was written whole, or where the output failed a beginning of it
-abbrev pub Writes : Status → Text → Text → Type 0
-Writes OutputFault text wrote = (rest : Text) × (text ≡ wrote ++ rest) × (rest ≢ [])
-Writes status text wrote = wrote ≡ text
+-- what was written last, after the answers that were written whole: the answer to the last line, or the line of the status
+abbrev pub IsLast : Status → List machine.Answer → List machine.Answer → Text → Type 0
+IsLast Done answers whole last = (answer : machine.Answer) × (answers ≡ whole ++ answer ∷ []) × (last ≡ text_of answer)
+IsLast aim answers whole last = (answers ≡ whole) × (last ≡ status_line aim)
+
+-- all was written whole but for what is last, and of this a part
+pub record IsPartOf (aim : Status) (answers : List machine.Answer) (wrote : Text) : Type 0 where
+  pub whole : List machine.Answer
+  pub last : Text
+  pub is_last : IsLast aim answers whole last
+  pub part : Text
+  pub rest : Text
+  pub joined : last ≡ part ++ rest
+  pub short : rest ≢ []
+  pub wrote_is : wrote ≡ texts_of whole ++ part
+
+-- the answers and the line of the status were written whole, or the output failed at what is last of them
+abbrev pub Writes : Status → Status → List machine.Answer → Text → Type 0
+Writes OutputFault aim answers wrote = IsPartOf aim answers wrote
+Writes status aim answers wrote = wrote ≡ texts_of answers ++ status_line aim
 
 -- a run ended with the line of a status, which was written whole, or else its output failed
 pub data EndsWith (status : Status) (old new : Option (List ℕ)) : Status → Type 0 where
@@ -106,5 +122,5 @@ pub record Outcome (tells : Type 0) (files : FileMap) (before faults : ℕ) (lef
   -- what was written
   pub wrote : Text
   pub appended : Appends written written' wrote
-  pub writes : Writes status (texts_of answers ++ status_line aim) wrote
+  pub writes : Writes status aim answers wrote
   pub ends : Finishes status aim left' read unread rest

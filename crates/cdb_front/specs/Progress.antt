@@ -63,17 +63,22 @@ IsQuit line = line_command line ≡ said.quit
 abbrev pub IsNotQuit : Text → Type 0
 IsNotQuit line = line_command line ≢ said.quit
 
--- the answer to the last line that was read wasn't written whole
+-- the answer to the last line that was read wasn't written whole, and those before it were
 pub record Broken (tells : Type 0) (files : FileMap) (before : ℕ) (read : Text) (old now : Option (List ℕ)) (faults : ℕ) : Type 0 where
   pub lines : List Text
   pub rest : Text
-  pub answers : List machine.Answer
+  pub whole : List machine.Answer
+  pub answer : machine.Answer
   pub state : State
   pub cut : Cut read lines rest
   pub no_quit : HaveNoQuit lines
-  pub run : Run (Holds tells files) start (commands_of (lines ++ rest ∷ [])) answers state
-  pub counted : Counts before faults answers
-  pub written : WritesPart old now (texts_of answers)
+  pub run : Run (Holds tells files) start (commands_of (lines ++ rest ∷ [])) (whole ++ answer ∷ []) state
+  pub counted : Counts before faults (whole ++ answer ∷ [])
+  pub part : Text
+  pub unwritten : Text
+  pub joined : text_of answer ≡ part ++ unwritten
+  pub short : unwritten ≢ []
+  pub appended : Appends old now (texts_of whole ++ part)
 
 -- a command was answered, and its answer written, or a part of it
 pub record Speaks (tells : Type 0) (files : FileMap) (since faults : ℕ) (Written : Text → Type 0) (command : Command) (old new : State) : Type 0 where

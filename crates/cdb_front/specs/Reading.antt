@@ -7,8 +7,9 @@ use Rattle.cdb_model.specs.Machine.{State, start}
 use Rattle.cdb_model.specs.Machine as machine
 use Rattle.cdb_model.specs.Run.{Run, Cut, HaveNoQuit, commands_of, texts_of}
 use Rattle.cdb_front.specs.Progress.{Sofar, Holds, Counts}
-use Rattle.cdb_front.specs.Outcome.{Hears, Aims, Writes, Finishes}
+use Rattle.cdb_front.specs.Outcome.{Hears, Aims, IsPartOf, Finishes}
 use Rattle.cdb_front.specs.declared.status.Status.{Status}
+use Rattle.cdb_front.specs.declared.status.Status.TheVariants.{OutputFault}
 use Rattle.cdb_front.specs.declared.turn.Turned.{Turned}
 use Rattle.cdb_front.specs.declared.turn.Turned.TheVariants.{Taken, Ended}
 
@@ -18,6 +19,11 @@ pub record Reading (tells : Type 0) (files : FileMap) (before faults : ℕ) (lef
   pub input : Consumes left left' read
   pub sofar : Sofar tells files before read written written' faults state kept
   pub count : taken ≡ length read
+
+-- the answers were written whole, or the output failed at the last of them
+abbrev pub WritesAnswers : Status → Status → List machine.Answer → Text → Type 0
+WritesAnswers OutputFault aim answers wrote = IsPartOf aim answers wrote
+WritesAnswers status aim answers wrote = wrote ≡ texts_of answers
 
 -- the outcome of a run before the line of its status is written
 pub record Stops (tells : Type 0) (files : FileMap) (before faults : ℕ) (left left' written written' : Option (List ℕ)) (status : Status) : Type 0 where
@@ -39,7 +45,7 @@ pub record Stops (tells : Type 0) (files : FileMap) (before faults : ℕ) (left 
   pub counted : Counts before faults answers
   pub wrote : Text
   pub appended : Appends written written' wrote
-  pub writes : Writes status (texts_of answers) wrote
+  pub writes : WritesAnswers status aim answers wrote
   pub ends : Finishes status aim left' read unread rest
 
 -- after one read of the input
