@@ -50,6 +50,8 @@ impl<D: Disk> Fuse<D> {
 fn spend(left: &mut u64, faults: &mut u64) -> Result<(), Failed>
     ensures blown { IsErr result ↔ (left.old ≡ 0) }
     ensures left { left.new ≡ left.old - 1 }
+    ensures ok { OnOk result (faults.new ≡ faults.old) }
+    ensures err { OnErr result (faults.new ≡ one_more faults.old) }
     ensures cause { HasCause faults.old faults.new result }
 {
     if *left == 0 {
@@ -108,6 +110,7 @@ impl<D: Disk> Disk for Fuse<D> {
     fn read_at(&mut self, path: &Path, at: u64, into: &mut [u8]) -> Result<(), Failed>
         requires { D.tells → Reaches ((D.state (inner_of self.old)).present path.now.bytes) at (length into.old) }
         ensures bytes { D.tells → OnOk result (HasAt ((D.state (inner_of self.old)).present path.now.bytes) at into.new) }
+        ensures kept { calls_left self.old ≡ 0 → into.new ≡ into.old }
         ensures state { D.state (inner_of self.new) ≡ D.state (inner_of self.old) }
         ensures time { Rests (D.clock (inner_of self.old)) (D.clock (inner_of self.new)) (D.since (inner_of self.old)) (D.since (inner_of self.new)) }
         ensures cause { HasCause (fuse_faults self.old) (fuse_faults self.new) result }

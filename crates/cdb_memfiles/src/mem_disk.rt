@@ -136,6 +136,7 @@ impl Disk for MemDisk {
     fn read_at(&mut self, path: &Path, at: u64, into: &mut [u8]) -> Result<(), Failed>
         requires { Reaches ((state_of self.old).present path.now.bytes) at (length into.old) }
         ensures bytes { OnOk result (HasAt ((state_of self.old).present path.now.bytes) at into.new) }
+        ensures kept { OnErr result (into.new ≡ into.old) }
         ensures cause { HasCause (schedule_of self.old).faults (schedule_of self.new).faults result }
         ensures listed { ReadsAsListed self.old self.new result }
         ensures reads { reads_of self.new ≡ one_more (reads_of self.old) }

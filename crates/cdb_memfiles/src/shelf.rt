@@ -1,4 +1,4 @@
-ghost use Rattle.std.specs.Prelude.{◌≡◌, IfOk, OnOk, length};
+ghost use Rattle.std.specs.Prelude.{◌≡◌, IfOk, OnOk, OnErr, length};
 ghost use Rattle.cdb_model.specs.Causes.{HasCause};
 ghost use Rattle.cdb_model.specs.Maps.{size_of, Reaches, HasAt};
 ghost use Rattle.cdb_memfiles.specs.Files.{content};
@@ -55,6 +55,7 @@ impl Shelf for MemShelf {
     fn read_at(&mut self, path: &Path, at: u64, into: &mut [u8]) -> Result<(), Failed>
         requires { Reaches (shelf_files self.old path.now.bytes) at (length into.old) }
         ensures bytes { OnOk result (HasAt (shelf_files self.old path.now.bytes) at into.new) }
+        ensures kept { OnErr result (into.new ≡ into.old) }
         ensures files { shelf_files self.new ≡ shelf_files self.old }
         ensures cause { HasCause (shelf_schedule self.old).faults (shelf_schedule self.new).faults result }
         ensures listed { FailsAsListed (shelf_schedule self.old) (shelf_schedule self.new) result }
