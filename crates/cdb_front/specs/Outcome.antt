@@ -36,7 +36,7 @@ abbrev pub Aims : Status → Status → Type 0
 Aims OutputFault aim = aim ≢ OutputFault
 Aims status aim = aim ≡ status
 
--- what was written last, after the answers that were written whole: the answer to the last line, or the line of the status
+-- what was written last, after the answers that were written whole: the last answer, or the line of the status
 abbrev pub IsLast : Status → List machine.Answer → List machine.Answer → Text → Type 0
 IsLast Done answers whole last = (answer : machine.Answer) × (answers ≡ whole ++ answer ∷ []) × (last ≡ text_of answer)
 IsLast aim answers whole last = (answers ≡ whole) × (last ≡ status_line aim)
