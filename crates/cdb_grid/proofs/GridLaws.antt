@@ -211,14 +211,3 @@ twice from i s t e = ap (λ n. from + i * n) e ∙ again
   where
     again : from + i * (2 * s) ≡ from + 2 * i * s
     again = omega arith
-
--- the corners beside a corner are every second one of the next smaller height
-pub beside-suc : (h i j : ℕ) (c : Place) → beside (suc h) c i j ≡ beside h c (2 * i) (2 * j)
-beside-suc h i j c =
-    same_place (beside (suc h) c i j) (beside h c (2 * i) (2 * j))
-    (twice c.north i (step h) (step (suc h)) (step-suc h))
-    (twice c.east j (step_east h c) (step_east (suc h) c) (step_east-suc h c))
-
--- the even row of a child, where it begins at a known row of its parent
-pub even_row : (u u' s s' r r0 : ℕ) → u' * s' ≡ 2 * (u * s + r0) → r0 ≤ r → 2 * (u * s + r) ≡ u' * s' + 2 * (r - r0)
-even_row u u' s s' r r0 e le = omega arith

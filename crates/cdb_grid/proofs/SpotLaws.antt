@@ -1,13 +1,11 @@
 -- Where a tile's places stand in its parent.
-use Rattle.std.proofs.Common.{◌≡◌, ℕ, suc, ◌+◌, ◌*◌, ◌/◌, ◌%◌, ◌<◌, ◌≤◌, ◌⊎◌, inl, inr, sym, ◌∙◌, ap, arith}
+use Rattle.std.proofs.Common.{◌≡◌, ℕ, suc, ◌+◌, ◌*◌, ◌/◌, ◌%◌, ◌<◌, ◌≤◌, ◌⊎◌, inl, inr, ◌∙◌, ap, arith}
 use Rattle.std.proofs.lemmas.Bool.{cases_lt}
-use Rattle.std.proofs.lemmas.Nat.{mul-lt}
-use Rattle.std.proofs.Math.Nat.{eq_of_mul-eq-mul_right}
 use Rattle.cdb_grid.specs.Units.{degree, step, tiles_of, side_of, width_at, row_of, column_of}
-use Rattle.cdb_grid.specs.Tiles.{tile_height, tile_side, tile_step_east, element_corner}
+use Rattle.cdb_grid.specs.Tiles.{tile_height, tile_side, element_corner}
 use Rattle.cdb_grid.specs.Children.{IsParent}
 use Rattle.cdb_grid.specs.declared.tile.Tile.{Tile}
-use Rattle.cdb_grid.proofs.UnitLaws.{step-suc, step-pos, width-pos}
+use Rattle.cdb_grid.proofs.UnitLaws.{step-suc}
 use Rattle.cdb_grid.proofs.GridLaws.{same_place}
 use Rattle.cdb_grid.proofs.TileLaws.{tile_height-most}
 use Rattle.cdb_grid.proofs.PyramidLaws.{IsHalved, parent-halved, side-fine, side-coarse, tiles-coarse}
@@ -82,26 +80,3 @@ spot-begins c p k =
     ∙ ap (λ x. east (column_of c.cell.lon * degree) w x (tile_height p)) i.right
     ∙ ap (east (column_of c.cell.lon * degree) w (c.right / 2)) above
     ∙ units_at (column_of c.cell.lon * degree) c.right (side_of h) (side_of (suc h)) (w * step h) (w * step (suc h)) (sides_of h c.right le c.right_in_range) wide)
-
--- in elements of the finer level, a tile begins at twice the row and the column of its parent at which its part begins
-pub spot-row : (c p : Tile) (row col : ℕ) → IsParent c p → element_corner p row col ≡ element_corner c 0 0
-    → (c.up * tile_side c ≡ 2 * (p.up * tile_side p + row)) × (c.right * tile_side c ≡ 2 * (p.right * tile_side p + col))
-spot-row c p row col k e =
-    let i : IsHalved c p = parent-halved c p k in
-    let h : ℕ = tile_height c in
-    let w : ℕ = width_at (row_of c.cell.lat) in
-    let twice : step (tile_height p) ≡ 2 * step h = ap step i.above ∙ step-suc h in
-    let wide : 0 < w * step h = mul-lt 0 0 w (step h) (width-pos (row_of c.cell.lat)) (step-pos h) in
-    let same : width_at (row_of p.cell.lat) ≡ w = ap (λ x. width_at (row_of x.lat)) i.cell in
-    let east : tile_step_east p ≡ 2 * (w * step h) =
-    ap (λ x. x * step (tile_height p)) same ∙ ap (λ x. w * x) twice ∙ (omega arith) in (
-      doubled (c.up * tile_side c) (p.up * tile_side p + row) (step h) (step (tile_height p)) (row_of p.cell.lat * degree) (row_of c.cell.lat * degree)
-          (step-pos h) twice (ap (λ x. row_of x.lat * degree) i.cell) (ap (λ q. q.north) e),
-      doubled (c.right * tile_side c) (p.right * tile_side p + col) (w * step h) (tile_step_east p) (column_of p.cell.lon * degree) (column_of c.cell.lon * degree)
-          wide east (ap (λ x. column_of x.lon * degree) i.cell) (ap (λ q. q.east) e),
-    )
-  where
-    doubled : (x y s t b d : ℕ) → 0 < s → t ≡ 2 * s → b ≡ d → b + y * t ≡ d + (x + 0) * s → x ≡ 2 * y
-    doubled x y s t b d gap twice same e =
-        let f : b + y * (2 * s) ≡ d + (x + 0) * s = ap (λ z. b + y * z) (sym twice) ∙ e in
-        eq_of_mul-eq-mul_right s gap x (2 * y) (omega arith)

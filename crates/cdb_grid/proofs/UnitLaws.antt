@@ -1,5 +1,5 @@
 -- Laws of widths, steps and counts, over plain numbers.
-use Rattle.std.proofs.Common.{◌≡◌, ℕ, suc, ◌+◌, ◌-◌, ◌*◌, ◌/◌, ◌%◌, ◌^◌, ◌<◌, ◌≤◌, min, nat_lt, refl, sym, ◌∙◌, ap, subst, ℤ, pos, negsuc, ◌+ℤ◌, ◌≤ℤ◌, arith, lit≤, lit<}
+use Rattle.std.proofs.Common.{◌≡◌, ℕ, suc, ◌+◌, ◌-◌, ◌*◌, ◌/◌, ◌%◌, ◌^◌, ◌<◌, ◌≤◌, min, nat_lt, refl, sym, ◌∙◌, ap, subst, ℤ, pos, negsuc, ◌+ℤ◌, ◌≤ℤ◌, arith, lit<}
 use Prim.Native.Nat.{◌∣◌}
 use Rattle.std.proofs.lemmas.Bool.{cond_both}
 use Rattle.std.proofs.lemmas.Int.{ints}
@@ -26,9 +26,6 @@ at_widths P one two three four six twelve y =
 
 pub width-pos : (y : ℕ) → 0 < width_at y
 width-pos = at_widths (λ w. 0 < w) (lit< tt) (lit< tt) (lit< tt) (lit< tt) (lit< tt) (lit< tt)
-
-pub width-le : (y : ℕ) → width_at y ≤ 12
-width-le = at_widths (λ w. w ≤ 12) (lit≤ tt) (lit≤ tt) (lit≤ tt) (lit≤ tt) (lit≤ tt) (lit≤ tt)
 
 -- every width divides the whole circle
 pub width-dvd : (y : ℕ) → width_at y ∣ 360
@@ -101,15 +98,8 @@ power_least h low = pow_mono {i = 1} low
 pub power_most : (h : ℕ) → h ≤ 34 → 2 ^ h ≤ 17179869184
 power_most h high = pow_mono {j = 34} high
 
--- a side is at most 1024
-pub side_shifted : (h : ℕ) → (1 * 2 ^ min 10 (34 - h)) % 2 ^ 32 ≡ side_of h
-side_shifted h = let lt : min 10 (34 - h) < 32 = omega arith in one_shl (min 10 (34 - h)) 32 lt
-
 pub side-pos : (h : ℕ) → 1 ≤ side_of h
 side-pos h = pow_pos (min 10 (34 - h))
-
-pub side-le : (h : ℕ) → side_of h ≤ 1024
-side-le h = let le : min 10 (34 - h) ≤ 10 = omega arith in pow_mono {j = 10} le
 
 -- the tiles of a height together fill a degree, so one is at most that
 pub tiles-pos : (h : ℕ) → 1 ≤ tiles_of h

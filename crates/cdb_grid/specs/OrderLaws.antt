@@ -12,6 +12,7 @@ use Rattle.cdb_grid.specs.declared.family.Family.{Family}
 use Rattle.cdb_grid.specs.declared.family.Family.TheVariants.{Elev, Low, High, Mat}
 use Rattle.cdb_grid.specs.declared.tile.Tile.{Tile}
 
+-- the order is total
 pub tile_cmp-total : IsTotalOrder tile_cmp
 tile_cmp-total =
     then_total (on_total (λ (t : Tile). family_rank t.family) nat_cmp_total)
@@ -61,6 +62,7 @@ chain f l y x u r =
     is_eq-then f _ ∙ ap (λ b. is_eq f && b) (is_eq-then l _ ∙ ap (λ b. is_eq l && b) (is_eq-then y _ ∙ ap (λ b. is_eq y && b)
     (is_eq-then x _ ∙ ap (λ b. is_eq x && b) (is_eq-then u r))))
 
+-- two tiles are equal by `==` exactly where neither stands before the other
 pub tile_ties : (s t : Tile) → (sameb the_type s.family t.family
     && ((int_eq s.cell.lat t.cell.lat && int_eq s.cell.lon t.cell.lon)
     && (int_eq s.level.number t.level.number && (nat_eq s.up t.up && nat_eq s.right t.right))))

@@ -17,11 +17,12 @@ height_of (negsuc l) = 25 + l
 abbrev pub step : ℕ → ℕ
 step h = 2025 * 2 ^ h
 
--- how many tiles of a height stand along one side of a geocell
+-- how many tiles of a height stand along one side of a geocell: 1 below level 0, else 2 to the power of the level
 abbrev pub tiles_of : ℕ → ℕ
 tiles_of h = 2 ^ (24 - h)
 
--- how many elements stand along one side of a tile of a height
+-- how many elements stand along one side of a tile of a height: 1,024 from level 0 on, and half as many at each coarser
+-- level
 abbrev pub side_of : ℕ → ℕ
 side_of h = 2 ^ min 10 (34 - h)
 
@@ -58,7 +59,7 @@ width_at y =
     if nat_lt y 170 then 4 else
     if nat_lt y 179 then 6 else 12
 
--- so many units are n/d degrees, and at most 360 degrees to either side
+-- so many units are n/d degrees, d is above 0, and they are at most 360 degrees to either side
 pub record IsFraction (n d units : ℤ) : Type 0 where
   pub positive : pos 0 <ℤ d
   pub value : units *ℤ d ≡ n *ℤ pos degree
