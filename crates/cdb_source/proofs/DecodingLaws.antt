@@ -1,13 +1,15 @@
 -- Which part of the bytes of a source file is the first bad one.
-use Rattle.std.proofs.Common.{◌≡◌, ℕ, zero, suc, ◌+◌, ◌*◌, ◌^◌, ◌<◌, ◌≤◌, ℤ, pos, negsuc, List, [], ◌∷◌, ◌++◌, length, take, drop, get_or, All, set, Result, Ok, Err, refl, sym, ap, subst, ◌∙◌, append_assoc, arith}
+use Rattle.std.proofs.Common.{◌≡◌, ℕ, zero, suc, ◌+◌, ◌*◌, ◌^◌, ◌<◌, ◌≤◌, ℤ, pos, negsuc, List, [], ◌∷◌, ◌++◌, length, take, drop, get_or, All, set, Result, Ok, Err, inl, inr, refl, sym, ap, subst, ◌∙◌, append_assoc, arith}
 use Rattle.std.proofs.lemmas.Int.{ints, to_z-of_z}
 use Rattle.std.specs.Prelude.{IfOk, IfErr, false, ◌==◌}
 use Rattle.std.specs.Result.{IsErrAnd}
 use Rattle.std.specs.Int.{w16, from_be_bytes, cast_signed, cast_unsigned}
 use Rattle.std.proofs.lemmas.Nat.{from_be_bytes-to_be_bytes_2}
 use Rattle.std.proofs.Props.{props}
+use Rattle.std.proofs.Math.Nat.{le_antisymm}
+use Rattle.std.proofs.lemmas.Bool.{cases_lt}
 use mir.Val.{SFits}
-use Rattle.std.proofs.lemmas.List.{take_at, drop_at, take-append-drop, length-append, length-take}
+use Rattle.std.proofs.lemmas.List.{take_at, drop_at, take-append-drop, length-append, length-take, append-nil}
 use Rattle.std.proofs.lemmas.List.Elements.{All-push}
 use Rattle.std.proofs.lemmas.Grind.{flat_map-append}
 use Rattle.cdb_source.specs.declared.kind.Kind.{Kind}
@@ -16,7 +18,7 @@ use Rattle.cdb_source.specs.declared.head.SourceHead.{SourceHead}
 use Rattle.cdb_source.specs.declared.source.Source.{Source}
 use Rattle.cdb_source.specs.Posts.{IsPost}
 use Rattle.cdb_source.specs.Texts.{first_bytes, head_text, front_text, post_bytes, posts_text, source_text}
-use Rattle.cdb_source.specs.Decoding.{post_count, IsBadPost, FirstBad, Tells, TellsPost, GivesSource, first_bytes_bad, head_bad, posts_cut, post_bad, bytes_left}
+use Rattle.cdb_source.specs.Decoding.{post_count, IsOther, HasCutPosts, HasBadPost, HasBytesLeft, IsBadPost, FirstBad, Tells, TellsPost, GivesSource, first_bytes_bad, head_bad, posts_cut, post_bad, bytes_left}
 use Rattle.cdb_source.specs.declared.decode_error.DecodeError.{DecodeError}
 use Rattle.cdb_source.specs.declared.decode_error.DecodeError.TheVariants.{Memory, Bad}
 use Rattle.cdb_source.proofs.HeadLaws.{one_head, has_head}
@@ -100,17 +102,17 @@ two_front a b x y e = (ap (take 2) e, ap (drop 2) e)
 All-rest : (kind : Kind) (p : ℤ) (ps : List ℤ) → All (IsPost kind) (p ∷ ps) → IsPost kind p × All (IsPost kind) ps
 All-rest kind p ps all = (all 0 (pos 0) (omega arith), λ k d lt. all (suc k) d (omega arith))
 
--- the post after so many posts of a text
-post_there : (kind : Kind) (xs ys : List ℤ) (n : ℤ) (rest : List ℕ) → All (IsPost kind) xs → All (IsPost kind) ys → IsPost Elevation n → length ys < length xs → posts_text xs ≡ posts_text ys ++ (post_bytes n ++ rest) → IsPost kind n
-post_there kind [] ys n rest all others fits lt e = absurd (omega arith)
-post_there kind (x ∷ xs) [] n rest all others fits lt e =
+-- the post after so many posts of a text, which goes on with more
+post_there : (kind : Kind) (xs ys : List ℤ) (n : ℤ) (more rest : List ℕ) → All (IsPost kind) xs → All (IsPost kind) ys → IsPost Elevation n → length ys < length xs → posts_text xs ++ more ≡ posts_text ys ++ (post_bytes n ++ rest) → IsPost kind n
+post_there kind [] ys n more rest all others fits lt e = absurd (omega arith)
+post_there kind (x ∷ xs) [] n more rest all others fits lt e =
     let here = All-rest kind x xs all in
-    let same = same_post x n (any_number kind x here.0) fits (two_front x n (posts_text xs) rest e).0 in
+    let same = same_post x n (any_number kind x here.0) fits (two_front x n (posts_text xs ++ more) rest (sym (append_assoc (post_bytes x) (posts_text xs) more) ∙ e)).0 in
     subst (λ z. IsPost kind z) same here.0
-post_there kind (x ∷ xs) (y ∷ ys) n rest all others fits lt e =
+post_there kind (x ∷ xs) (y ∷ ys) n more rest all others fits lt e =
     let shorter : length ys < length xs = omega arith in
-    post_there kind xs ys n rest (All-rest kind x xs all).1 (All-rest kind y ys others).1 fits shorter
-    (two_front x y (posts_text xs) (posts_text ys ++ (post_bytes n ++ rest)) (e ∙ append_assoc (post_bytes y) (posts_text ys) (post_bytes n ++ rest))).1
+    post_there kind xs ys n more rest (All-rest kind x xs all).1 (All-rest kind y ys others).1 fits shorter
+    (two_front x y (posts_text xs ++ more) (posts_text ys ++ (post_bytes n ++ rest)) (sym (append_assoc (post_bytes x) (posts_text xs) more) ∙ e ∙ append_assoc (post_bytes y) (posts_text ys) (post_bytes n ++ rest))).1
 
 same_posts : (xs ys : List ℤ) → All (IsPost Elevation) xs → All (IsPost Elevation) ys → posts_text xs ≡ posts_text ys → xs ≡ ys
 same_posts [] [] a b e = refl
@@ -151,35 +153,126 @@ one_source a b e =
     let all_b : All (IsPost Elevation) b.posts = λ k d lt. any_number b.head.kind (get_or b.posts k d) (b.in_range k d lt) in
     same_source a b both.0 (same_posts a.posts b.posts all_a all_b both.1)
 
--- the file of a source has no bad part
-no_bad : (bytes : List ℕ) (place : ℕ) (source : Source) → bytes ≡ source_text source → FirstBad bytes place → ⊥
-no_bad bytes place source e (first_bytes_bad other at) = other.never (head_text source.head ++ posts_text source.posts) e
-no_bad bytes place source e (head_bad bad at) = bad.never source.head (posts_text source.posts) e
-no_bad bytes place source e (posts_cut cut at) =
-    let both = same_front cut.head source.head cut.rest (posts_text source.posts) (sym cut.begins ∙ e) in
+-- ---- parts that exclude one another
+
+other_or_front : (bytes rest : List ℕ) (head : SourceHead) → IsOther bytes → bytes ≡ front_text head ++ rest → ⊥
+other_or_front bytes rest head other e = other.never (head_text head ++ rest) (e ∙ append_assoc first_bytes (head_text head) rest)
+
+length-source_text : (source : Source) → length (source_text source) ≡ 52 + 2 * post_count source.head
+length-source_text source = length-append (front_text source.head) (posts_text source.posts) ∙ omega (arith, length-front_text source.head, length-posts_text source.posts, source.count)
+
+-- the head of a source's file, and what follows it
+source_front : (bytes more : List ℕ) (source : Source) → bytes ≡ source_text source ++ more → bytes ≡ front_text source.head ++ (posts_text source.posts ++ more)
+source_front bytes more source e = e ∙ append_assoc (front_text source.head) (posts_text source.posts) more
+
+-- bytes that begin with a source's file have whole posts
+whole_or_cut : (bytes more : List ℕ) (source : Source) → bytes ≡ source_text source ++ more → HasCutPosts bytes → ⊥
+whole_or_cut bytes more source e cut =
+    let both = same_front cut.head source.head cut.rest (posts_text source.posts ++ more) (sym cut.begins ∙ source_front bytes more source e) in
     let short : length cut.rest < 2 * post_count source.head = rw (← both.0) cut.cut in
-    let whole : length cut.rest ≡ 2 * post_count source.head = ap length both.1 ∙ length-posts_text source.posts ∙ ap (λ n. 2 * n) source.count in
-    omega arith
-no_bad bytes place source e (post_bad bad) =
-    let both = same_front bad.head source.head bad.rest (posts_text source.posts) (sym bad.begins ∙ e) in
+    let whole : length cut.rest ≡ length (posts_text source.posts) + length more = ap length both.1 ∙ length-append (posts_text source.posts) more in
+    omega (arith, length-posts_text source.posts, source.count)
+
+-- and each of them is of the kind
+whole_or_bad : (bytes more : List ℕ) (source : Source) (place : ℕ) → bytes ≡ source_text source ++ more → HasBadPost bytes place → ⊥
+whole_or_bad bytes more source place e bad =
+    let both = same_front bad.head source.head bad.rest (posts_text source.posts ++ more) (sym bad.begins ∙ source_front bytes more source e) in
     let kind : bad.head.kind ≡ source.head.kind = ap (λ (h : SourceHead). h.kind) both.0 in
     let within : bad.count < post_count source.head = rw (← both.0) bad.within in
     let b = bad.bad in
     let shorter : length b.posts < length source.posts = rw (b.counted, source.count) within in
-    let parts : posts_text source.posts ≡ posts_text b.posts ++ (post_bytes b.number ++ b.rest) = sym both.1 ∙ b.parts ∙ append_assoc (posts_text b.posts) (post_bytes b.number) b.rest in
-    b.refused (post_there bad.head.kind source.posts b.posts b.number b.rest (rw kind source.in_range) b.allowed b.a_number shorter parts)
+    let parts : posts_text source.posts ++ more ≡ posts_text b.posts ++ (post_bytes b.number ++ b.rest) = sym both.1 ∙ b.parts ∙ append_assoc (posts_text b.posts) (post_bytes b.number) b.rest in
+    b.refused (post_there bad.head.kind source.posts b.posts b.number more b.rest (rw kind source.in_range) b.allowed b.a_number shorter parts)
+
+-- posts that are whole aren't cut
+bad_or_cut : (bytes : List ℕ) (place : ℕ) → HasBadPost bytes place → HasCutPosts bytes → ⊥
+bad_or_cut bytes place bad cut =
+    let both = same_front cut.head bad.head cut.rest bad.rest (sym cut.begins ∙ bad.begins) in
+    let short : length cut.rest < 2 * post_count bad.head = rw (← both.0) cut.cut in
+    omega (arith, ap length both.1, bad.whole)
+
+-- of two sources at the beginning of the same bytes the heads are one
+heads_agree : (bytes more others : List ℕ) (a b : Source) → bytes ≡ source_text a ++ more → bytes ≡ source_text b ++ others → a.head ≡ b.head
+heads_agree bytes more others a b ea eb = (same_front a.head b.head (posts_text a.posts ++ more) (posts_text b.posts ++ others) (sym (source_front bytes more a ea) ∙ source_front bytes others b eb)).0
+
+-- the posts before a bad one are of the kind
+none_before : (kind : Kind) (text : List ℕ) (j k : ℕ) → IsBadPost kind text j → IsBadPost kind text k → j < k → ⊥
+none_before kind text j k a b lt =
+    let shorter : length a.posts < length b.posts = rw (a.counted, b.counted) lt in
+    let parts : posts_text b.posts ++ (post_bytes b.number ++ b.rest) ≡ posts_text a.posts ++ (post_bytes a.number ++ a.rest) = sym (append_assoc (posts_text b.posts) (post_bytes b.number) b.rest) ∙ sym b.parts ∙ a.parts ∙ append_assoc (posts_text a.posts) (post_bytes a.number) a.rest in
+    a.refused (post_there kind b.posts a.posts a.number (post_bytes b.number ++ b.rest) a.rest b.allowed a.allowed a.a_number shorter parts)
+
+-- the file of a source has no bad part
+pub no_bad : (bytes : List ℕ) (place : ℕ) (source : Source) → bytes ≡ source_text source → FirstBad bytes place → ⊥
+no_bad bytes place source e (first_bytes_bad other at) = other_or_front bytes (posts_text source.posts) source.head other e
+no_bad bytes place source e (head_bad bad at) = bad.never source.head (posts_text source.posts) e
+no_bad bytes place source e (posts_cut cut at) = whole_or_cut bytes [] source (e ∙ sym (append-nil (source_text source))) cut
+no_bad bytes place source e (post_bad bad) = whole_or_bad bytes [] source place (e ∙ sym (append-nil (source_text source))) bad
 no_bad bytes place source e (bytes_left left) =
-    let other = left.source in
-    let regrouped : front_text other.head ++ (posts_text other.posts ++ left.byte ∷ left.rest) ≡ front_text source.head ++ posts_text source.posts = sym (append_assoc (front_text other.head) (posts_text other.posts) (left.byte ∷ left.rest)) ∙ sym left.begins ∙ e in
-    let both = same_front other.head source.head (posts_text other.posts ++ left.byte ∷ left.rest) (posts_text source.posts) regrouped in
-    let counts : length other.posts ≡ length source.posts = other.count ∙ ap post_count both.0 ∙ sym source.count in
-    let lengths : 2 * length other.posts + suc (length left.rest) ≡ 2 * length source.posts = ap (λ n. n + suc (length left.rest)) (sym (length-posts_text other.posts)) ∙ sym (length-append (posts_text other.posts) (left.byte ∷ left.rest)) ∙ ap length both.1 ∙ length-posts_text source.posts in
-    omega arith
+    let heads = heads_agree bytes (left.byte ∷ left.rest) [] left.source source left.begins (e ∙ sym (append-nil (source_text source))) in
+    let longer : length bytes ≡ length (source_text left.source) + suc (length left.rest) = ap length left.begins ∙ length-append (source_text left.source) (left.byte ∷ left.rest) in
+    let counts : post_count left.source.head ≡ post_count source.head = ap post_count heads in
+    omega (arith, ap length e, length-source_text left.source, length-source_text source)
 
 pub gives : (bytes : List ℕ) (r : Result Source DecodeError) → IfOk r (λ source. bytes ≡ source_text source) → IfErr r (Tells bytes) → (source : Source) → bytes ≡ source_text source → GivesSource source r
 gives bytes (Ok given) spelled told source e = one_source given source (sym spelled ∙ e)
 gives bytes (Err Memory) spelled told source e = tt
 gives bytes (Err (Bad place)) spelled told source e = no_bad bytes place source e told
+
+-- ---- the first bad part begins at one place
+
+-- no bad post comes after another
+bad_post_order : (bytes : List ℕ) (p q : ℕ) → HasBadPost bytes p → HasBadPost bytes q → p ≤ q
+bad_post_order bytes p q a b =
+    let both = same_front a.head b.head a.rest b.rest (sym a.begins ∙ b.begins) in
+    let there : IsBadPost a.head.kind a.rest b.count = rw (both.0, both.1) b.bad in
+    elim (cases_lt b.count a.count) [
+      | inl lt ↦ absurd (none_before a.head.kind a.rest b.count a.count there a.bad lt)
+      | inr le ↦ let at_a = a.place_is in let at_b = b.place_is in omega arith
+    ]
+
+-- the bytes after a whole source begin nowhere later
+left_order : (bytes : List ℕ) (p q : ℕ) → HasBytesLeft bytes p → HasBytesLeft bytes q → p ≤ q
+left_order bytes p q a b =
+    let heads = heads_agree bytes (a.byte ∷ a.rest) (b.byte ∷ b.rest) a.source b.source a.begins b.begins in
+    let counts : post_count a.source.head ≡ post_count b.source.head = ap post_count heads in
+    omega (arith, a.place_is, b.place_is, length-source_text a.source, length-source_text b.source)
+
+front_of_left : (bytes : List ℕ) (place : ℕ) (left : HasBytesLeft bytes place) → bytes ≡ front_text left.source.head ++ (posts_text left.source.posts ++ left.byte ∷ left.rest)
+front_of_left bytes place left = source_front bytes (left.byte ∷ left.rest) left.source left.begins
+
+place_of_left : (bytes : List ℕ) (place : ℕ) → HasBytesLeft bytes place → 52 ≤ place
+place_of_left bytes place left = omega (arith, left.place_is, length-source_text left.source)
+
+place_of_post : (bytes : List ℕ) (place : ℕ) → HasBadPost bytes place → 52 ≤ place
+place_of_post bytes place bad = omega (arith, bad.place_is)
+
+-- no first bad part begins after another
+bad_order : (bytes : List ℕ) (p q : ℕ) → FirstBad bytes p → FirstBad bytes q → p ≤ q
+bad_order bytes p q (first_bytes_bad a at_a) b = omega arith
+bad_order bytes p q (head_bad a at_a) (first_bytes_bad b at_b) = absurd (b.never a.rest a.begins)
+bad_order bytes p q (head_bad a at_a) (head_bad b at_b) = omega arith
+bad_order bytes p q (head_bad a at_a) (posts_cut b at_b) = omega arith
+bad_order bytes p q (head_bad a at_a) (post_bad b) = omega (arith, place_of_post bytes q b)
+bad_order bytes p q (head_bad a at_a) (bytes_left b) = omega (arith, place_of_left bytes q b)
+bad_order bytes p q (posts_cut a at_a) (first_bytes_bad b at_b) = absurd (other_or_front bytes a.rest a.head b a.begins)
+bad_order bytes p q (posts_cut a at_a) (head_bad b at_b) = absurd (b.never a.head a.rest a.begins)
+bad_order bytes p q (posts_cut a at_a) (posts_cut b at_b) = omega arith
+bad_order bytes p q (posts_cut a at_a) (post_bad b) = omega (arith, place_of_post bytes q b)
+bad_order bytes p q (posts_cut a at_a) (bytes_left b) = omega (arith, place_of_left bytes q b)
+bad_order bytes p q (post_bad a) (first_bytes_bad b at_b) = absurd (other_or_front bytes a.rest a.head b a.begins)
+bad_order bytes p q (post_bad a) (head_bad b at_b) = absurd (b.never a.head a.rest a.begins)
+bad_order bytes p q (post_bad a) (posts_cut b at_b) = absurd (bad_or_cut bytes p a b)
+bad_order bytes p q (post_bad a) (post_bad b) = bad_post_order bytes p q a b
+bad_order bytes p q (post_bad a) (bytes_left b) = absurd (whole_or_bad bytes (b.byte ∷ b.rest) b.source p b.begins a)
+bad_order bytes p q (bytes_left a) (first_bytes_bad b at_b) = absurd (other_or_front bytes _ a.source.head b (front_of_left bytes p a))
+bad_order bytes p q (bytes_left a) (head_bad b at_b) = absurd (b.never a.source.head _ (front_of_left bytes p a))
+bad_order bytes p q (bytes_left a) (posts_cut b at_b) = absurd (whole_or_cut bytes (a.byte ∷ a.rest) a.source a.begins b)
+bad_order bytes p q (bytes_left a) (post_bad b) = absurd (whole_or_bad bytes (a.byte ∷ a.rest) a.source q a.begins b)
+bad_order bytes p q (bytes_left a) (bytes_left b) = left_order bytes p q a b
+
+pub one_bad_place : (bytes : List ℕ) (p q : ℕ) → FirstBad bytes p → FirstBad bytes q → p ≡ q
+one_bad_place bytes p q a b = le_antisymm (bad_order bytes p q a b) (bad_order bytes q p b a)
 
 -- ---- what stops a reading
 
@@ -223,7 +316,7 @@ more_bytes bytes (byte ∷ rest) head posts place parts facts some at = bytes_le
   byte = byte;
   rest = rest;
   begins = parts;
-  place_is = at ∙ sym (length-append (front_text head) (posts_text posts) ∙ omega (arith, length-front_text head, length-posts_text posts, facts.0));
+  place_is = at ∙ sym (length-source_text (source_of head posts facts));
 })
 
 pub told_post : (bytes text : List ℕ) (head : SourceHead) → bytes ≡ front_text head ++ drop 52 bytes → 2 * post_count head ≤ length (drop 52 bytes) → text ≡ take (2 * post_count head) (drop 52 bytes)

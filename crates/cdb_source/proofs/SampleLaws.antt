@@ -16,15 +16,8 @@ before : (kind : Kind) (x edge : ℕ) → is_before kind x edge ≡ true → IsB
 before Elevation x edge t = grind (arith, nat_tests)
 before Material x edge t = grind (arith, nat_tests)
 
-is_before-true : (kind : Kind) (x edge : ℕ) → IsBefore kind x edge → is_before kind x edge ≡ true
-is_before-true Elevation x edge h = grind (arith, nat_tests)
-is_before-true Material x edge h = grind (arith, nat_tests)
-
 le_of_true : (m n : ℕ) → nat_le m n ≡ true → m ≤ n
 le_of_true m n t = grind (arith, nat_tests)
-
-true_of_le : (m n : ℕ) → m ≤ n → nat_le m n ≡ true
-true_of_le m n h = grind (arith, nat_tests)
 
 both : (a b : Bool) → (a && b) ≡ true → (a ≡ true) × (b ≡ true)
 both true b e = (refl, e)
@@ -42,15 +35,6 @@ in_box head p t =
       west = le_of_true (corner_of head).east p.east w.1;
       east = before head.kind p.east ((corner_of head).east + box_width head) e.1;
     }
-
-pub is_in_box-true : (head : SourceHead) (p : Place) → IsInBox head p → is_in_box head p ≡ true
-is_in_box-true head p b =
-    rw (
-      true_of_le (corner_of head).north p.north b.south,
-      is_before-true head.kind p.north ((corner_of head).north + box_height head) b.north,
-      true_of_le (corner_of head).east p.east b.west,
-      is_before-true head.kind p.east ((corner_of head).east + box_width head) b.east,
-    ) refl
 
 -- a source has values in its box alone
 pub in_box_of_sample : (s : Source) (p : Place) (v : ℤ) → sample_at s p ≡ Some v → IsInBox s.head p

@@ -88,3 +88,11 @@ abbrev pub GivesSource : Source → Result Source DecodeError → Type 0
 GivesSource source (Ok given) = given ≡ source
 GivesSource source (Err Memory) = Unit {0}
 GivesSource source (Err (Bad place)) = ⊥
+
+-- the first bad part of the bytes begins at one place alone
+abbrev pub OneBadPlace : Type 0
+OneBadPlace = (bytes : List ℕ) (p q : ℕ) → FirstBad bytes p → FirstBad bytes q → p ≡ q
+
+-- the file of a source has no bad part
+abbrev pub SourceHasNone : Type 0
+SourceHasNone = (source : Source) (place : ℕ) → FirstBad (source_text source) place → ⊥

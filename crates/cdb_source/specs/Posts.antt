@@ -1,12 +1,8 @@
 -- The numbers of a source: which ones a kind has, and which one stands for no value.
-use Rattle.std.specs.Prelude.{◌≡◌, ◌⊎◌, ℤ, pos, negsuc, ◌≤ℤ◌, Bool, true, false, Option, Some, None, if◌then◌else◌}
+use Rattle.std.specs.Prelude.{◌≡◌, ◌⊎◌, ℤ, pos, negsuc, ◌≤ℤ◌, Option, Some, None, if◌then◌else◌}
 use Rattle.std.specs.Ordering.{int_eq}
 use Rattle.cdb_source.specs.declared.kind.Kind.{Kind}
 use Rattle.cdb_source.specs.declared.kind.Kind.TheVariants.{Elevation, Material}
-
-abbrev pub is_elevation : Kind → Bool
-is_elevation Elevation = true
-is_elevation Material = false
 
 -- the number that stands for no value
 abbrev pub none_of : Kind → ℤ

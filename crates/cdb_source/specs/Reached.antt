@@ -64,13 +64,14 @@ abbrev pub IsLoad : List SourceHead → ℕ → Type 0
 IsLoad [] load = load ≡ 0
 IsLoad (head ∷ heads) load = (count : ℕ) × (rest : ℕ) × (IsReachCount head count × IsLoad heads rest × (load ≡ count + rest))
 
--- the value of the element of a tile at a row from the south and a column from the west
+-- the value of a family at a height and the corner of a cell
 abbrev pub family_value : Family → List Source → ℕ → Place → Option ℤ
 family_value Elev ss h c = elevation_of ss h c
 family_value Low ss h c = low_of ss h c
 family_value High ss h c = high_of ss h c
 family_value Mat ss h c = material_of ss h c
 
+-- the value of the element of a tile at a row from the south and a column from the west
 abbrev pub tile_value : List Source → Tile → ℕ → ℕ → Option ℤ
 tile_value ss t row col = family_value t.family ss (tile_height t) (element_corner t row col)
 

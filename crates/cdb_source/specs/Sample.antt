@@ -79,7 +79,7 @@ weighted_sum post dlat dlon up right =
 unfoldable pub rounded : ℕ → ℤ → ℤ
 rounded d n = int_div_euclid (pos 2 *ℤ n +ℤ pos d) (pos (2 * d))
 
--- the weighted mean of the four posts around a place of the box
+-- the weighted mean of the four posts around a place of the box, rounded
 abbrev pub mean_at : Source → Place → Option ℤ
 mean_at s p =
     option_map (rounded (row_step s.head * column_step s.head))
@@ -89,6 +89,7 @@ mean_at s p =
 abbrev pub covering_at : Source → Place → Option ℤ
 covering_at s p = post_at s ((p.north - (corner_of s.head).north) / row_step s.head) ((p.east - (corner_of s.head).east) / column_step s.head)
 
+-- what a source has at a place of its box, by its kind: the mean of four posts, or for material the value of the cell
 abbrev pub value_in : Kind → Source → Place → Option ℤ
 value_in Elevation s p = mean_at s p
 value_in Material s p = covering_at s p

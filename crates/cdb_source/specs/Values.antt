@@ -19,6 +19,7 @@ pub record Sampled : Type 0 where
 abbrev pub sampled : Source → Sampled
 sampled s = record { kind = s.head.kind; height = height_of s.head.level.number; at = sample_at s }
 
+-- two kinds are one
 abbrev pub same_kind : Kind → Kind → Bool
 same_kind Elevation Elevation = true
 same_kind Elevation Material = false

@@ -1,6 +1,8 @@
 //! The laws of one level: why the tiles of a level can be made from the tiles of the next finer one,
-//! from the new sources of this level, and from what was there before. Each function does nothing;
-//! its contract is the law, for every list of sources.
+//! from the new sources of this level, and from what was there before; and those of the place that is
+//! told of bytes that aren't a source's. Each function does nothing; its contract is the law, for every
+//! list of sources, or for all bytes.
+ghost use Rattle.cdb_source.specs.Decoding.{OneBadPlace, SourceHasNone};
 ghost use Rattle.cdb_source.specs.Laws.{BestSource, FinerPlaces, FromFiner, EarlierStand, ThreePasses, LeastOfCell, GreatestOfCell, MostFrequent, MaterialLater, ReachingAlone, Samples, TouchedWithinLoad};
 
 /// The elevation at a place is the sample of the source that is greatest by level, then by number,
@@ -68,4 +70,15 @@ pub fn samples()
 /// The tiles that sources touch are at most as many as their load says.
 pub fn touched_within_load()
     ensures { TouchedWithinLoad }
+{}
+
+/// The place that `decode` tells of bytes that aren't a source's is the only one: no bytes have two
+/// places at which their first bad part begins.
+pub fn one_bad_place()
+    ensures { OneBadPlace }
+{}
+
+/// The file of a source has no bad part, at whatever place.
+pub fn source_has_none()
+    ensures { SourceHasNone }
 {}

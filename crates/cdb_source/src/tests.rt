@@ -18,56 +18,57 @@ const EAST: i64 = 180 * DEGREE;
 
 const WIDEST: i64 = 12 * DEGREE;
 
+/// A kind, the south-west corner, steps, rows and columns, and whether it is a head.
+static HEADS: [(Kind, i64, i64, i64, i64, u32, u32, bool); 25] = [
+    // a single post at the north-east end of the globe, and a cell that would pass it
+    (Kind::Elevation, NORTH, EAST, 1, 1, 1, 1, true),
+    (Kind::Material, NORTH, 0, 1, 1, 1, 1, false),
+    (Kind::Material, NORTH - 1, EAST - 1, 1, 1, 1, 1, true),
+    (Kind::Material, 0, EAST, 1, 1, 1, 1, false),
+    // the south and the west end
+    (Kind::Elevation, -NORTH, -EAST, 1, 1, 1, 1, true),
+    (Kind::Elevation, -NORTH - 1, 0, 1, 1, 1, 1, false),
+    (Kind::Elevation, 0, -EAST - 1, 1, 1, 1, 1, false),
+    // the last row at the pole, and one row more
+    (Kind::Elevation, 0, 0, DEGREE, DEGREE, 91, 1, true),
+    (Kind::Elevation, 0, 0, DEGREE, DEGREE, 92, 1, false),
+    (Kind::Material, 0, 0, DEGREE, DEGREE, 90, 1, true),
+    (Kind::Material, 0, 0, DEGREE, DEGREE, 91, 1, false),
+    (Kind::Elevation, 0, 0, DEGREE, DEGREE, 1, 181, true),
+    (Kind::Elevation, 0, 0, DEGREE, DEGREE, 1, 182, false),
+    // steps
+    (Kind::Elevation, 0, 0, WIDEST, WIDEST, 1, 1, true),
+    (Kind::Elevation, 0, 0, WIDEST + 1, WIDEST, 1, 1, false),
+    (Kind::Elevation, 0, 0, WIDEST, WIDEST + 1, 1, 1, false),
+    (Kind::Elevation, 0, 0, 0, 1, 1, 1, false),
+    (Kind::Elevation, 0, 0, 1, -1, 1, 1, false),
+    // rows and columns
+    (Kind::Elevation, 0, 0, 1, 1, 0, 1, false),
+    (Kind::Elevation, 0, 0, 1, 1, 1, 0, false),
+    (Kind::Elevation, 0, 0, 1, 1, 65536, 1, true),
+    (Kind::Elevation, 0, 0, 1, 1, 1, 65537, false),
+    (Kind::Elevation, 0, 0, 1, 1, 4096, 4096, true),
+    (Kind::Elevation, 0, 0, 1, 1, 4096, 4097, false),
+    // a reach of 2^64 + 65534 units
+    (Kind::Elevation, 0, 0, 281479271743490, 1, 65536, 1, false),
+];
+
 #[test]
 fn heads_at_their_limits(rt: HostRuntime) -> Result<(), Fail> {
-    // kind, south-west corner, steps, rows and columns, and whether it is a head
-    let table = [
-        // a single post at the north-east end of the globe, and a cell that would pass it
-        (Kind::Elevation, NORTH, EAST, 1, 1, 1, 1, true),
-        (Kind::Material, NORTH, 0, 1, 1, 1, 1, false),
-        (Kind::Material, NORTH - 1, EAST - 1, 1, 1, 1, 1, true),
-        (Kind::Material, 0, EAST, 1, 1, 1, 1, false),
-        // the south and the west end
-        (Kind::Elevation, -NORTH, -EAST, 1, 1, 1, 1, true),
-        (Kind::Elevation, -NORTH - 1, 0, 1, 1, 1, 1, false),
-        (Kind::Elevation, 0, -EAST - 1, 1, 1, 1, 1, false),
-        // the last row at the pole, and one row more
-        (Kind::Elevation, 0, 0, DEGREE, DEGREE, 91, 1, true),
-        (Kind::Elevation, 0, 0, DEGREE, DEGREE, 92, 1, false),
-        (Kind::Material, 0, 0, DEGREE, DEGREE, 90, 1, true),
-        (Kind::Material, 0, 0, DEGREE, DEGREE, 91, 1, false),
-        (Kind::Elevation, 0, 0, DEGREE, DEGREE, 1, 181, true),
-        (Kind::Elevation, 0, 0, DEGREE, DEGREE, 1, 182, false),
-        // steps
-        (Kind::Elevation, 0, 0, WIDEST, WIDEST, 1, 1, true),
-        (Kind::Elevation, 0, 0, WIDEST + 1, WIDEST, 1, 1, false),
-        (Kind::Elevation, 0, 0, WIDEST, WIDEST + 1, 1, 1, false),
-        (Kind::Elevation, 0, 0, 0, 1, 1, 1, false),
-        (Kind::Elevation, 0, 0, 1, -1, 1, 1, false),
-        // rows and columns
-        (Kind::Elevation, 0, 0, 1, 1, 0, 1, false),
-        (Kind::Elevation, 0, 0, 1, 1, 1, 0, false),
-        (Kind::Elevation, 0, 0, 1, 1, 65536, 1, true),
-        (Kind::Elevation, 0, 0, 1, 1, 1, 65537, false),
-        (Kind::Elevation, 0, 0, 1, 1, 4096, 4096, true),
-        (Kind::Elevation, 0, 0, 1, 1, 4096, 4097, false),
-        // a reach of 2^64 + 65534 units
-        (Kind::Elevation, 0, 0, 281479271743490, 1, 65536, 1, false),
-    ];
     let level = Level::new(-9).ok_or("level")?;
-    for (kind, lat, lon, dlat, dlon, rows, cols, is_head) in table {
-        let lat = arc(lat).ok_or("lat")?;
-        let lon = arc(lon).ok_or("lon")?;
-        let dlat = arc(dlat).ok_or("dlat")?;
-        let dlon = arc(dlon).ok_or("dlon")?;
-        let head = SourceHead::new(kind, level, lat, lon, dlat, dlon, rows, cols);
+    for (kind, lat, lon, dlat, dlon, rows, cols, is_head) in HEADS.iter() {
+        let lat = arc(*lat).ok_or("lat")?;
+        let lon = arc(*lon).ok_or("lon")?;
+        let dlat = arc(*dlat).ok_or("dlat")?;
+        let dlon = arc(*dlon).ok_or("dlon")?;
+        let head = SourceHead::new(*kind, level, lat, lon, dlat, dlon, *rows, *cols);
         assert_eq!(rt;
             head.is_some(),
-            is_head,
+            *is_head,
             "{} {} rows, {} columns",
             dlat.units,
-            rows,
-            cols
+            *rows,
+            *cols
         );
     }
     Ok(())
@@ -157,5 +158,8 @@ fn rows_stand_south_first(rt: HostRuntime) -> Result<(), Fail> {
     laws::material_with_later_sources();
     laws::reaching_sources_alone();
     laws::samples();
+    laws::touched_within_load();
+    laws::one_bad_place();
+    laws::source_has_none();
     Ok(())
 }
