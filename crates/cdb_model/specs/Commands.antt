@@ -1,6 +1,6 @@
 -- What a line of the script says to the machine.
-use Rattle.std.specs.Prelude.{◌≡◌, ℕ, Option, Some, None, length, nat_le, if◌then◌else◌}
-use Rattle.cdb_source.specs.declared.kind.Kind.TheVariants.{Elevation, Material}
+use Rattle.std.specs.Prelude.{◌≡◌, Option, Some, None, length, nat_le, if◌then◌else◌}
+use Rattle.cdb_source.specs.declared.kind.Kind.TheVariants.{Material}
 use Rattle.cdb_model.specs.Grammar as grammar
 use Rattle.cdb_model.specs.Grammar.{Sentence, line_of}
 use Rattle.cdb_model.specs.Text.{Text}

@@ -73,6 +73,7 @@ abbrev pub after_slash : Text → Option Text
 after_slash w =
     if nat_lt (position_or_len is_slash w) (length w) then Some (drop (position_or_len is_slash w + 1) w) else None
 
+-- the fraction that a word spells: an optional minus and 1 to 18 digits, then optionally a slash and 1 to 18 digits
 unfoldable pub fraction : Text → Option Fraction
 fraction w = fraction_of (take (position_or_len is_slash w) w) (after_slash w)
 

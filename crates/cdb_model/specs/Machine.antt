@@ -46,6 +46,7 @@ sources_of list = flat_map (λ sources. sources) list
 abbrev pub sources_up_to : ℕ → List (List Source) → List Source
 sources_up_to version list = sources_of (take version list)
 
+-- the heads of sources, in their order
 abbrev pub heads_of : List Source → List SourceHead
 heads_of ss = map (λ s. s.head) ss
 
@@ -109,7 +110,7 @@ pub record IsReady (s : State) : Type 0 where
   pub idle : s.going ≡ None
   pub room : length s.pending < 64
 
--- no publication is going, and 64 sources are pending
+-- no publication is going, and at least 64 sources are pending
 pub record IsFull (s : State) : Type 0 where
   pub idle : s.going ≡ None
   pub no_room : 64 ≤ length s.pending

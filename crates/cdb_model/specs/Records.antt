@@ -21,8 +21,8 @@ family_number Low = 2
 family_number High = 3
 family_number Mat = 4
 
--- the 16 bytes of a tile: its family, level and latitude in a byte each, its longitude in two, U and R in four each,
--- and zero bytes before the longitude and after it
+-- the 16 bytes of a tile: its family, level and latitude in a byte each, a zero byte, its longitude in two, two zero
+-- bytes, and U and R in four each
 unfoldable pub entry_text : Tile → List ℕ
 entry_text tile =
     (family_number tile.family ∷ cast_unsigned w8 tile.level.number ∷ cast_unsigned w8 tile.cell.lat ∷ 0 ∷ []) ++
@@ -49,6 +49,6 @@ entries_text tiles = flat_map entry_text tiles
 abbrev pub record_text : ℕ → List SourceHead → List Tile → List ℕ
 record_text version heads tiles = front_text version (length heads) (length tiles) ++ heads_text heads ++ entries_text tiles
 
--- the file HEAD: the number of the newest version and a line feed
+-- the file HEAD: the number of the newest version in decimal without leading zeros, and a line feed
 abbrev pub head_file_text : ℕ → List ℕ
 head_file_text version = decimal version ++ 10 ∷ []

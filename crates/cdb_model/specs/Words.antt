@@ -1,8 +1,7 @@
 -- The words of a line, separated by single spaces, and the numbers among them.
-use Rattle.std.specs.Prelude.{ℕ, ℤ, pos, neg_ℤ, Bool, ◌&&◌, List, [], ◌∷◌, length, Option, Some, None, is_some, option_map, option_and_then, nat_lt, nat_le, ◌==◌, int_le, if◌then◌else◌}
+use Rattle.std.specs.Prelude.{ℕ, ℤ, pos, neg_ℤ, Bool, ◌&&◌, List, [], ◌∷◌, length, Option, Some, None, is_some, option_map, option_and_then, nat_lt, nat_le, ◌==◌, if◌then◌else◌}
 use Rattle.std.specs.Char.{is_ascii_digit}
 use Rattle.std.specs.List.{list_all, slice_split}
-use Rattle.std.specs.Str.{bytes_eq}
 use Rattle.std.specs.Str.Parse.{digits_value}
 use Rattle.cdb_model.specs.Text.{Text}
 
@@ -18,6 +17,7 @@ is_space c = c == 32
 abbrev pub words : Text → List Text
 words line = slice_split is_space line
 
+-- the first of a list of words, and those after it; none of an empty list
 abbrev pub first_word : List Text → Option (Text × List Text)
 first_word [] = None
 first_word (w ∷ ws) = Some (w, ws)
