@@ -1,21 +1,15 @@
 -- The stated order on lists of tiles.
-use Rattle.std.proofs.Common.{◌≡◌, ℕ, zero, suc, ◌<◌, inl, inr, Bool, true, false, ◌&&◌, nat_eq, List, [], ◌∷◌, length, get_or, Option, Some, None, refl, sym, ◌∙◌, subst, arith, rules}
+use Rattle.std.proofs.Common.{◌≡◌, Bool, true, false, ◌&&◌, nat_eq, refl, sym, subst, rules}
 use Rattle.std.specs.Cmp.{IsEquivalence}
-use Rattle.std.specs.List.{slice_get}
 use Rattle.std.specs.Ordering.{int_eq}
-use Rattle.std.specs.declared.cmp.Ordering.TheVariants.{Less}
-use Rattle.std.proofs.lemmas.Bool.{cases_lt}
 use Rattle.std.proofs.lemmas.Bool.Decides.{Decides-int_eq}
 use Rattle.std.proofs.lemmas.Cmp.{eq_by_cmp_equiv}
-use Rattle.std.proofs.lemmas.Option.{slice_get_cases, slice_get_past, get_or_from_slice_get}
 use borrow.Author.Tests.{eqb-true}
 use denote.Enum.Bare.{sameb, same_true}
 use Rattle.cdb_grid.specs.contracts.family.Family.{the_type}
-use Rattle.cdb_grid.specs.Order.{tile_cmp}
 use Rattle.cdb_grid.specs.OrderLaws.{tile_cmp-total, tile_ties}
 use Rattle.cdb_grid.specs.declared.tile.Tile.{Tile}
 use Rattle.cdb_grid.proofs.Same.{same_geocell, same_tile}
-use Rattle.cdb_touch.specs.Touched.{IsAscending}
 
 -- what `==` answers at two tiles
 abbrev pub tile_eq : Tile → Tile → Bool
