@@ -37,66 +37,69 @@ fn value_at(source: &Source, up: i64, right: i64) -> Option<i16> {
     sample(source, lat, lon)
 }
 
+/// No value.
+const NONE: i32 = -32768;
+
+/// A step, the north and the south row, units north and east of the corner, and the elevation.
+static ELEVATIONS: [(i64, [[i32; 2]; 2], i64, i64, Option<i16>); 28] = [
+    // the posts themselves
+    (4, [[20, 30], [0, 10]], 0, 0, Some(0)),
+    (4, [[20, 30], [0, 10]], 0, 4, Some(10)),
+    (4, [[20, 30], [0, 10]], 4, 0, Some(20)),
+    (4, [[20, 30], [0, 10]], 4, 4, Some(30)),
+    // a quarter of the way north, and a quarter of the way east: 5 and 2.5
+    (4, [[20, 30], [0, 10]], 1, 0, Some(5)),
+    (4, [[20, 30], [0, 10]], 0, 1, Some(3)),
+    // weights 9, 3, 3 and 1: 120 / 16 is 7.5
+    (4, [[20, 30], [0, 10]], 1, 1, Some(8)),
+    // halves, and quarters below zero
+    (2, [[9, 9], [0, 1]], 0, 1, Some(1)),
+    (2, [[9, 9], [-1, 0]], 0, 1, Some(0)),
+    (2, [[9, 9], [-2, -1]], 0, 1, Some(-1)),
+    (2, [[9, 9], [-3, -2]], 0, 1, Some(-2)),
+    (4, [[9, 9], [-3, 0]], 0, 3, Some(-1)),
+    (4, [[9, 9], [-3, 0]], 0, 1, Some(-2)),
+    // outside the box by one unit, on each side
+    (4, [[20, 30], [0, 10]], 5, 0, None),
+    (4, [[20, 30], [0, 10]], -1, 0, None),
+    (4, [[20, 30], [0, 10]], 0, 5, None),
+    (4, [[20, 30], [0, 10]], 0, -1, None),
+    // a post of weight zero isn't looked at
+    (4, [[NONE, 30], [0, 10]], 0, 1, Some(3)),
+    (4, [[NONE, 30], [0, 10]], 2, 4, Some(20)),
+    (4, [[NONE, 30], [0, 10]], 2, 0, None),
+    (4, [[NONE, 30], [0, 10]], 1, 1, None),
+    (4, [[20, 30], [NONE, 10]], 0, 0, None),
+    // steps of one unit and of 12 degrees
+    (1, [[20, 30], [0, 10]], 1, 1, Some(30)),
+    (
+        12 * DEGREE,
+        [[32767, 32767], [32767, 32767]],
+        6 * DEGREE + 1,
+        1,
+        Some(32767),
+    ),
+    (
+        12 * DEGREE,
+        [[-32767, -32767], [-32767, -32767]],
+        6 * DEGREE + 1,
+        1,
+        Some(-32767),
+    ),
+    (
+        12 * DEGREE,
+        [[32767, -32767], [-32767, 32767]],
+        6 * DEGREE,
+        6 * DEGREE,
+        Some(0),
+    ),
+    (12 * DEGREE, [[5, 5], [0, 1]], 0, 6 * DEGREE - 1, Some(0)),
+    (12 * DEGREE, [[5, 5], [0, 1]], 0, 6 * DEGREE, Some(1)),
+];
+
 #[test]
 fn elevations_between_posts(rt: HostRuntime) -> Result<(), Fail> {
-    let none = -32768;
-    // step, north and south row, units north and east of the corner, and the elevation
-    let table = [
-        // the posts themselves
-        (4, [[20, 30], [0, 10]], 0, 0, Some(0)),
-        (4, [[20, 30], [0, 10]], 0, 4, Some(10)),
-        (4, [[20, 30], [0, 10]], 4, 0, Some(20)),
-        (4, [[20, 30], [0, 10]], 4, 4, Some(30)),
-        // a quarter of the way north, and a quarter of the way east: 5 and 2.5
-        (4, [[20, 30], [0, 10]], 1, 0, Some(5)),
-        (4, [[20, 30], [0, 10]], 0, 1, Some(3)),
-        // weights 9, 3, 3 and 1: 120 / 16 is 7.5
-        (4, [[20, 30], [0, 10]], 1, 1, Some(8)),
-        // halves, and quarters below zero
-        (2, [[9, 9], [0, 1]], 0, 1, Some(1)),
-        (2, [[9, 9], [-1, 0]], 0, 1, Some(0)),
-        (2, [[9, 9], [-2, -1]], 0, 1, Some(-1)),
-        (2, [[9, 9], [-3, -2]], 0, 1, Some(-2)),
-        (4, [[9, 9], [-3, 0]], 0, 3, Some(-1)),
-        (4, [[9, 9], [-3, 0]], 0, 1, Some(-2)),
-        // outside the box by one unit, on each side
-        (4, [[20, 30], [0, 10]], 5, 0, None),
-        (4, [[20, 30], [0, 10]], -1, 0, None),
-        (4, [[20, 30], [0, 10]], 0, 5, None),
-        (4, [[20, 30], [0, 10]], 0, -1, None),
-        // a post of weight zero isn't looked at
-        (4, [[none, 30], [0, 10]], 0, 1, Some(3)),
-        (4, [[none, 30], [0, 10]], 2, 4, Some(20)),
-        (4, [[none, 30], [0, 10]], 2, 0, None),
-        (4, [[none, 30], [0, 10]], 1, 1, None),
-        (4, [[20, 30], [none, 10]], 0, 0, None),
-        // steps of one unit and of 12 degrees
-        (1, [[20, 30], [0, 10]], 1, 1, Some(30)),
-        (
-            12 * DEGREE,
-            [[32767, 32767], [32767, 32767]],
-            6 * DEGREE + 1,
-            1,
-            Some(32767),
-        ),
-        (
-            12 * DEGREE,
-            [[-32767, -32767], [-32767, -32767]],
-            6 * DEGREE + 1,
-            1,
-            Some(-32767),
-        ),
-        (
-            12 * DEGREE,
-            [[32767, -32767], [-32767, 32767]],
-            6 * DEGREE,
-            6 * DEGREE,
-            Some(0),
-        ),
-        (12 * DEGREE, [[5, 5], [0, 1]], 0, 6 * DEGREE - 1, Some(0)),
-        (12 * DEGREE, [[5, 5], [0, 1]], 0, 6 * DEGREE, Some(1)),
-    ];
-    for (step, rows, up, right, value) in &table {
+    for (step, rows, up, right, value) in ELEVATIONS.iter() {
         let source = source(rt.alloc(), Kind::Elevation, *step, rows)?;
         assert_eq!(rt;
             value_at(&source, *up, *right),
