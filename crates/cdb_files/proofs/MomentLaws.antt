@@ -1,5 +1,5 @@
 -- How the images of a run of calls come from those of each call.
-use Rattle.std.proofs.Common.{◌≡◌, ℕ, ◌≤◌, ◌⊎◌, inl, inr, sym, arith}
+use Rattle.std.proofs.Common.{ℕ, ◌≤◌, ◌⊎◌, inl, inr, arith}
 use Rattle.cdb_model.specs.Maps.{FileMap}
 use Rattle.cdb_files.specs.Moments.{Elapses, Rests, AddsOnly}
 

@@ -1,12 +1,12 @@
 -- Laws of the states of a disk.
-use Rattle.std.proofs.Common.{◌≡◌, ◌≢◌, ℕ, ◌≤◌, ◌||◌, Bool, true, ◌⊎◌, inl, inr, List, [], ◌∷◌, ◌++◌, length, take, Option, None, Some, IsTrue, refl, sym, ap, ◌∙◌, subst}
+use Rattle.std.proofs.Common.{◌≡◌, ◌≢◌, ℕ, ◌⊎◌, inl, inr, List, [], ◌∷◌, ◌++◌, take, None, Some, refl, sym, ap, ◌∙◌, subst}
 use Rattle.std.proofs.lemmas.Bool.{or_left, or_right}
 use Rattle.std.specs.Str.{bytes_eq}
 use Rattle.cdb_model.specs.Maps.{Text, Content, FileMap, IsThere, put, is_at_or_above, is_under}
 use Rattle.cdb_model.proofs.MapLaws.{put-same, put-other, put-put, bytes_eq-same}
 use Rattle.cdb_files.specs.Disk.{State, Possible, Allows, IsMade, with_piece, settled, added, after_create, after_append, after_sync_file, after_remove, after_make_dir, Fails, FailsAppend, FailsMakeDir}
 use Rattle.cdb_files.specs.Moments.{IsBetween}
-use Rattle.cdb_files.specs.Whole.{after_fill, after_write, ChangesOnly, IsImageBut}
+use Rattle.cdb_files.specs.Whole.{after_fill, ChangesOnly, IsImageBut}
 
 -- ---- what holds after a call
 pub made-make_dir : (folder : Text) (s : State) → IsMade (after_make_dir folder s) folder

@@ -1,6 +1,6 @@
 -- A file that is written or read in one piece.
-use Rattle.std.specs.Prelude.{◌≡◌, ◌≢◌, ℕ, ◌⊎◌, List, [], ◌∷◌, Option, None, Some}
-use Rattle.cdb_model.specs.Maps.{Text, Content, FileMap, put, folder_above, size_of}
+use Rattle.std.specs.Prelude.{◌≡◌, ◌≢◌, ℕ, List, [], ◌∷◌, None, Some}
+use Rattle.cdb_model.specs.Maps.{Text, Content, FileMap, put, size_of}
 use Rattle.cdb_files.specs.Disk.{State, Allows, after_make_dir}
 use Rattle.cdb_files.specs.Moments.{AddsOnly}
 use Rattle.cdb_files.specs.declared.whole.ReadSize.{ReadSize}

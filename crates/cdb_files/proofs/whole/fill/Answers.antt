@@ -1,5 +1,5 @@
-use Rattle.std.proofs.Common.{◌≡◌, ◌∙◌, sym, ap, subst, [], Some}
-use Rattle.cdb_model.specs.Maps.{Text, IsThere}
+use Rattle.std.proofs.Common.{◌∙◌, sym, ap, subst, []}
+use Rattle.cdb_model.specs.Maps.{IsThere}
 use Rattle.cdb_files.specs.Disk.{State, after_create, after_append, after_sync_file}
 use Rattle.cdb_files.proofs.StateLaws.{there-create, there-append, create-pieces, append-pieces, sync_file-pieces, create-only, append-only, sync_file-only, fails_append-only, equal-only, same-only}
 use Rattle.cdb_files.proofs.WholeLaws.{begun, onward, onward_ok, onward_err}

@@ -1,4 +1,4 @@
-use Rattle.std.proofs.Common.{◌≡◌, ◌∙◌, sym, ap, subst}
+use Rattle.std.proofs.Common.{◌∙◌, sym, ap, subst}
 use Rattle.cdb_model.specs.Maps.{Text}
 use Rattle.cdb_files.specs.Disk.{State, IsMade, after_make_dir}
 use Rattle.cdb_files.specs.Whole.{after_fill, after_write}
