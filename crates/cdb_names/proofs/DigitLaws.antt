@@ -1,5 +1,5 @@
 -- Numbers in two, three and eight digits.
-use Rattle.std.proofs.Common.{◌≡◌, ℕ, ◌+◌, ◌-◌, ◌*◌, ◌<◌, ◌≤◌, true, cond, ◌&&◌, [], ◌∷◌, ◌++◌, Some, None, refl, ap, sym, subst, ◌∙◌, arith}
+use Rattle.std.proofs.Common.{◌≡◌, ℕ, ◌+◌, ◌-◌, ◌*◌, ◌<◌, ◌≤◌, true, cond, ◌&&◌, [], ◌∷◌, ◌++◌, Some, None, ap, sym, subst, ◌∙◌, arith}
 use Rattle.std.specs.Prelude.{◌/◌, ◌%◌}
 use Rattle.std.specs.Char.{is_ascii_digit}
 use Rattle.std.proofs.lemmas.Bool.Decides.{nat_tests}
@@ -41,9 +41,6 @@ two_at_takes (a ∷ b ∷ text) n rest e =
     let t = two_takes a b m.0 m.1 in
     let whole : a ∷ b ∷ text ≡ two m.0 ++ text = ap (λ (f : Text). f ++ text) (sym t.0) in
     (subst (λ (r : Text). a ∷ b ∷ text ≡ two n ++ r) p.1 (subst (λ (k : ℕ). a ∷ b ∷ text ≡ two k ++ text) p.0 whole), omega (arith, t.1, p.0))
-
-pub two_at_again : (n : ℕ) (rest : Text) → n < 100 → two_at (two n ++ rest) ≡ Some (n, rest)
-two_at_again n rest h = rw (two_again n h) refl
 
 pub three_at_takes : (text : Text) (n : ℕ) (rest : Text) → three_at text ≡ Some (n, rest) → (text ≡ three n ++ rest) × (n < 1000)
 three_at_takes [] n rest e = absurd cc

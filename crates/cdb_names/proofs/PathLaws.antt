@@ -5,7 +5,6 @@ use Rattle.std.specs.Fmt.{decimal}
 use Rattle.cdb_grid.specs.declared.tile.Tile.{Tile}
 use Rattle.cdb_model.specs.Names.{Text, VersionTile, lat_text, lon_text, version_folder, dataset_folder, level_folder, path_fields, spell, BeginsWith, StopsBefore}
 use Rattle.cdb_names.specs.declared.folder.DatasetFolder.{DatasetFolder}
-use Rattle.cdb_names.specs.declared.folder.DatasetFolder.TheVariants.{Elevation, MinMaxElevation, RmTexture}
 use Rattle.cdb_names.specs.Fields.{after, across, version_folder_at, lat_folder_at, lon_folder_at, dataset_folder_at, level_folder_at, up_folder_at}
 use Rattle.cdb_names.specs.Reading.{dataset_folder_of}
 use Rattle.cdb_names.proofs.Tools.{some_is}
@@ -56,11 +55,6 @@ Shares7 version lat lon dataset level up v = (v.version ≡ version) × (v.tile.
 pub across_same : (l : ℤ) → across (level_for_folder l) ≡ across l
 across_same (pos n) = refl
 across_same (negsuc n) = across_coarse 0 ∙ sym (across_coarse n)
-
-some_family_again : (d : DatasetFolder) → dataset_folder_of (some_family d) ≡ d
-some_family_again Elevation = refl
-some_family_again MinMaxElevation = refl
-some_family_again RmTexture = refl
 
 level_of : (t : Tile) → IsLevel t.level.number
 level_of t = (t.level.coarsest, t.level.finest)

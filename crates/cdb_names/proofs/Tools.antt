@@ -15,10 +15,6 @@ pub some_if : {A : Type 0} (b : Bool) (x y : A) → cond b (Some x) None ≡ Som
 some_if true x y e = (refl, cc)
 some_if false x y e = absurd cc
 
-pub none_if : {A : Type 0} (b : Bool) (x : A) → cond b (Some x) None ≡ None → b ≡ false
-none_if true x e = absurd cc
-none_if false x e = refl
-
 -- which way a test went
 pub chosen : {A : Type 0} (b : Bool) (x y z : A) → cond b x y ≡ z → ((b ≡ true) × (x ≡ z)) ⊎ ((b ≡ false) × (y ≡ z))
 chosen true x y z e = inl (refl, e)
