@@ -12,14 +12,6 @@ set_here xs n v lt = get_or-set_same xs n v (pos 0) lt
 set_other : (xs : List ℤ) (n k : ℕ) (v : ℤ) → k ≢ n → number_in (set xs n v) k ≡ number_in xs k
 set_other xs n k v ne = grind (arith, places)
 
--- one number of a row more
-pub number_more : (want : ℕ → ℤ) (n : ℕ) (xs : List ℤ) (v : ℤ) → n < length xs → ((k : ℕ) → k < n → number_in xs k ≡ want k) → v ≡ want n
-    → (k : ℕ) → k < n + 1 → number_in (set xs n v) k ≡ want k
-number_more want n xs v lt done e k below = elim (cases_lt k n) [
-  | inl p ↦ set_other xs n k v (omega arith) ∙ done k p
-  | inr p ↦ let q : k ≡ n = omega arith in ap (number_in (set xs n v)) q ∙ set_here xs n v lt ∙ e ∙ sym (ap want q)
-]
-
 put_below : (a w i : ℕ) (xs ys : List ℤ) → i < a → a + w ≤ length xs → length ys ≡ w → number_in (put_mid a w xs ys) i ≡ number_in xs i
 put_below a w i xs ys lt fits e = grind (arith, places)
 
