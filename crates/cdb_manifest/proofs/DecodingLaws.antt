@@ -1,26 +1,21 @@
 -- Which field of the bytes of a record is the first bad one.
-use Rattle.std.proofs.Common.{◌≡◌, ℕ, zero, suc, ◌+◌, ◌*◌, ◌^◌, ◌<◌, ◌≤◌, pos, negsuc, List, [], ◌∷◌, ◌++◌, length, take, drop, Result, Ok, Err, refl, sym, ap, subst, ◌∙◌, append_assoc, arith}
+use Rattle.std.proofs.Common.{◌≡◌, ℕ, ◌+◌, ◌*◌, ◌<◌, pos, negsuc, List, [], ◌∷◌, ◌++◌, length, take, drop, Result, Ok, Err, refl, sym, ap, subst, ◌∙◌, append_assoc, arith}
 use Rattle.std.specs.Prelude.{IfOk, IfErr}
 use Rattle.std.specs.Result.{IsErrAnd}
-use Rattle.std.specs.Int.{w32, from_be_bytes}
 use Rattle.std.proofs.Props.{props}
-use Rattle.std.proofs.lemmas.List.{length-append, append-nil, nil_from_length}
-use Rattle.std.proofs.lemmas.Nat.{from_be_bytes-to_be_bytes_4}
+use Rattle.std.proofs.lemmas.List.{length-append, append-nil}
 use Rattle.std.proofs.lemmas.Grind.{flat_map-append}
 use Rattle.cdb_grid.specs.declared.family.Family.TheVariants.{Elev, Low, High}
 use Rattle.cdb_grid.specs.declared.tile.Tile.{Tile}
 use Rattle.cdb_source.specs.declared.head.SourceHead.{SourceHead}
-use Rattle.cdb_source.specs.Texts.{count_bytes, head_text}
 use Rattle.cdb_manifest.specs.declared.record_.Record.{Record}
 use Rattle.cdb_manifest.specs.declared.record_error.RecordError.{RecordError}
 use Rattle.cdb_manifest.specs.declared.record_error.RecordError.TheVariants.{Memory, Bad}
-use Rattle.cdb_model.specs.Records.{first_bytes, record_text, front_text, heads_text, entries_text, entry_text}
+use Rattle.cdb_model.specs.Records.{record_text, front_text, heads_text, entries_text, entry_text}
 use Rattle.cdb_manifest.specs.Records.{text_of, IsPublished}
 use Rattle.cdb_manifest.specs.Entries.{Ascending, IsRecord}
-use Rattle.cdb_manifest.specs.Decoding.{Fields, no_field, to_first, to_version, to_sources, to_head, to_entry, fields_text, AreOfForm, IsNext, IsWhole, FirstBad, IsFront, TellsHead, TellsEntry, Tells, GivesRecord}
-use Rattle.cdb_manifest.proofs.ListLaws.{items_begin}
-use Rattle.cdb_manifest.proofs.EntryLaws.{length-entry_text, entry_cancel}
-use Rattle.cdb_manifest.proofs.FieldLaws.{length-head_text, head_cancel, ascending_front}
+use Rattle.cdb_manifest.specs.Decoding.{to_head, to_entry, FirstBad, IsFront, TellsHead, TellsEntry, Tells, GivesRecord}
+use Rattle.cdb_manifest.proofs.PlaceLaws.{length-heads_text, length-entries_text, same_number, all_heads, all_entries, no_bad}
 
 -- the tile of N46E007 at level -10
 pub record IsWorked (t : Tile) : Type 0 where
@@ -35,14 +30,6 @@ read_more bytes rest after tiles tile so_far here =
     let whole : entries_text (tiles ++ tile ∷ []) ≡ entries_text tiles ++ entries_text (tile ∷ []) = flat_map-append entry_text tiles (tile ∷ []) in
     let one : entries_text (tile ∷ []) ≡ entry_text tile = append-nil (entry_text tile) in
     so_far ∙ ap (λ (r : List ℕ). entries_text tiles ++ r) here ∙ sym (append_assoc (entries_text tiles) (entry_text tile) after) ∙ rw (whole, one) refl
-
-pub length-heads_text : (heads : List SourceHead) → length (heads_text heads) ≡ 44 * length heads
-length-heads_text [] = refl
-length-heads_text (h ∷ hs) = omega (arith, length-append (head_text h) (heads_text hs), length-head_text h, length-heads_text hs)
-
-pub length-entries_text : (tiles : List Tile) → length (entries_text tiles) ≡ 16 * length tiles
-length-entries_text [] = refl
-length-entries_text (t ∷ ts) = omega (arith, length-append (entry_text t) (entries_text ts), length-entry_text t, length-entries_text ts)
 
 -- an error that a `?` hands on
 pub handed_on : {T : Type 0} (r : Result T RecordError) (Says : RecordError → Type 0) (e : RecordError) → Says e → IsErrAnd r (λ y. y ≡ e) → IfErr r Says
@@ -90,79 +77,6 @@ left_over bytes rest after v s t heads tiles form begins count read ordered tile
   place_is = omega (arith, count, tile_count, length-append (heads_text heads) (entries_text tiles), length-heads_text heads, length-entries_text tiles);
 }
 
--- ---- the text of a record has no bad field
-
-abbrev number_from : List ℕ → ℕ
-number_from bytes = from_be_bytes w32 (take 4 bytes)
-
-same_number : (a b : ℕ) → a ≤ 16384 → b ≤ 16384 → count_bytes a ≡ count_bytes b → a ≡ b
-same_number a b small few e = sym (from_be_bytes-to_be_bytes_4 a (omega arith)) ∙ ap (from_be_bytes w32) e ∙ from_be_bytes-to_be_bytes_4 b (omega arith)
-
-no_more : {X : Type 0} (xs zs : List X) → length (xs ++ zs) ≡ length xs → zs ≡ []
-no_more xs zs e = nil_from_length zs (omega (arith, length-append xs zs))
-
--- after some heads of a record comes the next one
-next_head : (heads hs : List SourceHead) (rest tail : List ℕ) → length hs < length heads → heads_text hs ++ rest ≡ heads_text heads ++ tail → (head : SourceHead) × ((after : List ℕ) × (rest ≡ head_text head ++ after))
-next_head heads hs rest tail few e = from heads hs rest tail few (items_begin head_text head_cancel hs heads rest tail (omega arith) e)
-  where
-    from : (heads hs : List SourceHead) (rest tail : List ℕ) → length hs < length heads → (zs : List SourceHead) × ((heads ≡ hs ++ zs) × (rest ≡ heads_text zs ++ tail)) → (head : SourceHead) × ((after : List ℕ) × (rest ≡ head_text head ++ after))
-    from heads hs rest tail few ([], (is, e)) = absurd (omega (arith, ap length is, length-append hs []))
-    from heads hs rest tail few (z ∷ zs, (is, e)) = (z, (heads_text zs ++ tail, e ∙ append_assoc (head_text z) (heads_text zs) tail))
-
--- what follows all heads of a record
-all_heads : (heads hs : List SourceHead) (rest tail : List ℕ) → length hs ≡ length heads → heads_text hs ++ rest ≡ heads_text heads ++ tail → (hs ≡ heads) × (rest ≡ tail)
-all_heads heads hs rest tail same e =
-    let b = items_begin head_text head_cancel hs heads rest tail (omega arith) e in
-    let nothing : b.0 ≡ [] = no_more hs b.0 (ap length (sym b.1.0) ∙ sym same) in
-    (sym (b.1.0 ∙ ap (λ (zs : List SourceHead). hs ++ zs) nothing ∙ append-nil hs), b.1.1 ∙ ap (λ (zs : List SourceHead). heads_text zs ++ tail) nothing)
-
-all_entries : (tiles ts : List Tile) → length ts ≡ length tiles → entries_text ts ≡ entries_text tiles → ts ≡ tiles
-all_entries tiles ts same e =
-    let b = items_begin entry_text entry_cancel ts tiles [] [] (omega arith) (append-nil (entries_text ts) ∙ e ∙ sym (append-nil (entries_text tiles))) in
-    let nothing : b.0 ≡ [] = no_more ts b.0 (ap length (sym b.1.0) ∙ sym same) in
-    sym (b.1.0 ∙ ap (λ (zs : List Tile). ts ++ zs) nothing ∙ append-nil ts)
-
--- after some tiles of a record comes the next one, or nothing
-next_entry : (tiles ts : List Tile) (rest : List ℕ) → Ascending tiles → length ts ≤ length tiles → entries_text ts ++ rest ≡ entries_text tiles → ((length ts ≡ length tiles) × (rest ≡ []) → ⊥)
-    → (tile : Tile) × ((after : List ℕ) × (Ascending (ts ++ tile ∷ []) × (length ts < length tiles) × (rest ≡ entry_text tile ++ after)))
-next_entry tiles ts rest asc le e unfinished = from tiles ts rest asc (items_begin entry_text entry_cancel ts tiles rest [] le (e ∙ sym (append-nil (entries_text tiles)))) unfinished
-  where
-    from : (tiles ts : List Tile) (rest : List ℕ) → Ascending tiles → (zs : List Tile) × ((tiles ≡ ts ++ zs) × (rest ≡ entries_text zs ++ [])) → ((length ts ≡ length tiles) × (rest ≡ []) → ⊥)
-        → (tile : Tile) × ((after : List ℕ) × (Ascending (ts ++ tile ∷ []) × (length ts < length tiles) × (rest ≡ entry_text tile ++ after)))
-    from tiles ts rest asc ([], (is, e)) unfinished = absurd (unfinished (sym (ap length (is ∙ append-nil ts)), e))
-    from tiles ts rest asc (z ∷ zs, (is, e)) unfinished =
-        let split : tiles ≡ (ts ++ z ∷ []) ++ zs = is ∙ sym (append_assoc ts (z ∷ []) zs) in
-        let front : Ascending (ts ++ z ∷ []) = ascending_front (ts ++ z ∷ []) zs (subst (λ (xs : List Tile). Ascending xs) split asc) in
-        (z, (entries_text zs ++ [], (front, omega (arith, ap length is, length-append ts (z ∷ zs)), e ∙ append_assoc (entry_text z) (entries_text zs) [])))
-
-no_bad : (item : Record) (fields : Fields) (rest : List ℕ) → AreOfForm fields → text_of item ≡ fields_text fields ++ rest → ((next after : List ℕ) → IsNext fields next → rest ≡ next ++ after → ⊥) → (IsWhole fields rest → ⊥) → ⊥
-no_bad item no_field rest form e never unfinished = never first_bytes (drop 8 (text_of item)) refl (sym e)
-no_bad item to_first rest form e never unfinished =
-    let r = item.in_range in
-    never (count_bytes item.version) (drop 12 (text_of item)) (item.version, (r.version_least, r.version_most, refl)) (sym (ap (drop 8) e))
-no_bad item (to_version version) rest form e never unfinished =
-    let r = item.in_range in
-    never (count_bytes (length item.heads)) (drop 16 (text_of item)) (length item.heads, (r.heads_least, r.heads_most, refl)) (sym (ap (drop 12) e))
-no_bad item (to_sources version sources) rest form e never unfinished =
-    let r = item.in_range in
-    never (count_bytes (length item.tiles)) (drop 20 (text_of item)) (length item.tiles, (omega arith, r.tiles_most, refl)) (sym (ap (drop 16) e))
-no_bad item (to_head version sources tiles heads) rest form e never unfinished =
-    let r = item.in_range in
-    let heads_most = r.heads_most in
-    let count : length item.heads ≡ sources = same_number (length item.heads) sources (omega arith) (omega (arith, form.1.1)) (ap (λ (bs : List ℕ). take 4 (drop 12 bs)) e) in
-    let next = next_head item.heads heads rest (entries_text item.tiles) (omega (arith, form.3)) (sym (ap (drop 20) e)) in
-    never (head_text next.0) next.1.0 (next.0, refl) next.1.1
-no_bad item (to_entry version tiles heads entries) rest form e never unfinished =
-    let r = item.in_range in
-    let heads_most = r.heads_most in
-    let tiles_most = r.tiles_most in
-    let count : length item.heads ≡ length heads = same_number (length item.heads) (length heads) (omega arith) (omega (arith, form.1.1)) (ap (λ (bs : List ℕ). take 4 (drop 12 bs)) e) in
-    let tile_count : length item.tiles ≡ tiles = same_number (length item.tiles) tiles (omega arith) form.2 (ap (λ (bs : List ℕ). take 4 (drop 16 bs)) e) in
-    let regrouped : heads_text heads ++ (entries_text entries ++ rest) ≡ heads_text item.heads ++ entries_text item.tiles = sym (append_assoc (heads_text heads) (entries_text entries) rest) ∙ sym (ap (drop 20) e) in
-    let both = all_heads item.heads heads (entries_text entries ++ rest) (entries_text item.tiles) (sym count) regrouped in
-    let next = next_entry item.tiles entries rest r.ordered (omega (arith, form.3)) both.1 (λ whole. unfinished (whole.0 ∙ tile_count, whole.1)) in
-    never (entry_text next.0) next.1.0 (omega (arith, next.1.1.1), (next.0, (next.1.1.0, refl))) next.1.1.2
-
 -- ---- records by their plain contents
 
 record_from : (v : ℕ) (hs : List SourceHead) (ts : List Tile) → IsRecord v hs ts → Record
@@ -195,7 +109,7 @@ one_record a b e =
 pub gives : (bytes : List ℕ) (r : Result Record RecordError) → IfOk r (λ item. bytes ≡ text_of item) → IfErr r (Tells bytes) → (item : Record) → bytes ≡ text_of item → GivesRecord item r
 gives bytes (Ok given) spelled told item e = one_record given item (sym spelled ∙ e)
 gives bytes (Err Memory) spelled told item e = tt
-gives bytes (Err (Bad place)) spelled told item e = no_bad item told.fields told.rest told.of_form (sym e ∙ told.begins) told.never told.unfinished
+gives bytes (Err (Bad place)) spelled told item e = no_bad item.version item.heads item.tiles place item.in_range (subst (λ (bs : List ℕ). FirstBad bs place) e told)
 
 -- ---- the record of a publication
 

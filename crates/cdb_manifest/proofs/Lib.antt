@@ -1,6 +1,7 @@
 pub mod ListLaws
 pub mod EntryLaws
 pub mod FieldLaws
+pub mod PlaceLaws
 pub mod DecodingLaws
 pub mod HeadFileLaws
 pub mod PublicationLaws

@@ -1,7 +1,6 @@
 -- Texts put together from parts, and taken apart again.
-use Rattle.std.proofs.Common.{◌≡◌, ℕ, zero, suc, ◌+◌, ◌<◌, ◌≤◌, List, [], ◌∷◌, ◌++◌, length, refl, sym, ap, ◌∙◌, append_assoc, arith}
+use Rattle.std.proofs.Common.{◌≡◌, ℕ, ◌≤◌, List, [], ◌∷◌, ◌++◌, length, refl, sym, ◌∙◌, append_assoc, arith}
 use Rattle.std.specs.List.{flat_map}
-use Rattle.std.proofs.lemmas.Grind.{flat_map-append}
 
 -- a known part put at the end
 pub more : (now was part old front known : List ℕ) → now ≡ was ++ part → part ≡ known → was ≡ old ++ front → now ≡ old ++ (front ++ known)

@@ -1,5 +1,5 @@
 -- The record of a publication.
-use Rattle.std.proofs.Common.{◌≡◌, ℕ, ◌≤◌, List, length, arith}
+use Rattle.std.proofs.Common.{◌≡◌, ◌≤◌, List, length, arith}
 use Rattle.std.proofs.lemmas.List.{length-map}
 use Rattle.cdb_source.specs.declared.source.Source.{Source}
 use Rattle.cdb_source.proofs.LoadLaws.{within_load}

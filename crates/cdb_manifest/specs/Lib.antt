@@ -1,3 +1,4 @@
 pub mod Records
 pub mod Entries
 pub mod Decoding
+pub mod Places
