@@ -43,10 +43,6 @@ removed-here path s here q = of (same_text q path)
         let B : Content → Type 0 = Allows (s.may q) in
         subst A (sym (removed-may path s q ne)) (subst B (sym (removed-present path s q ne)) (here q))
 
--- The removed file, with its folder synced.
-pub removed_kept : Text → State → State
-removed_kept path s = after_sync_dir (folder_above path) (after_remove path s)
-
 pub removed_kept-at : (path : Text) (s : State) (v : Content) → Allows ((after_sync_dir (folder_above path) (after_remove path s)).may path) v → v ≡ None
 removed_kept-at path s v a =
     let P : Possible → Type 0 = λ p. Allows p v in

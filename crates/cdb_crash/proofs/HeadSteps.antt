@@ -145,9 +145,6 @@ module _ {X : Type 0} (Stands : FileMap → List X → Type 0) (Complete : List 
   pub during_fill : (P : List X) (x : X) (s : State) → IsImage s s.present → IsReady Stands Complete P x s → (m : FileMap) → IsImageBut new_head_path s m → Stands m P
   during_fill P x s here ready m but = stands_but Stands Complete head_text layout P s new_head_path here ready.room (inl refl) m but
 
-  pub after_filled : (P : List X) (x : X) (s : State) (text : List ℕ) → IsImage s s.present → IsReady Stands Complete P x s → (m : FileMap) → IsImage (head_filled text s) m → Stands m P
-  after_filled P x s text here ready m image = during_fill P x s here ready m (λ q ne. filled-other text s q ne (m q) (image q))
-
   -- Inside the rename: either.
   pub during_rename : (P : List X) (x : X) (s : State) → IsImage s s.present → IsReady Stands Complete P x s → (m : FileMap)
       → IsBetween (head_filled (head_text (length P + 1)) s) (head_renamed (head_text (length P + 1)) s) m → IsEither Stands P x m

@@ -4,11 +4,10 @@ use Rattle.std.specs.Prelude.{slice_get}
 use Rattle.std.specs.List.{Contains}
 use Rattle.std.proofs.lemmas.List.Elements.{Contains-append_left, Contains-append_right}
 use Rattle.cdb_grid.specs.declared.tile.Tile.{Tile}
-use Rattle.cdb_source.specs.Reached.{Reaches, Reached, IsTouched, IsLoad}
+use Rattle.cdb_source.specs.Reached.{IsTouched}
 use Rattle.cdb_source.proofs.LoadLaws.{LoadTiles, load_tiles}
 use Rattle.cdb_source.specs.Texts.{source_text}
 use Rattle.cdb_source.specs.declared.source.Source.{Source}
-use Rattle.cdb_source.specs.declared.head.SourceHead.{SourceHead}
 use Rattle.cdb_model.specs.Machine.{heads_of, sources_of}
 use Rattle.cdb_model.specs.Maps.{Text, FileMap, IsThere}
 use Rattle.cdb_model.specs.Names.{record_path, source_path, path, name, fields_of_path, spell}

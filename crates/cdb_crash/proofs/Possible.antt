@@ -75,10 +75,6 @@ keeps-one w [] v a = absurd a
 keeps-one w (x ∷ xs) v (inl e) = inl e
 keeps-one w (x ∷ xs) v (inr a) = inr (keeps-one w xs v a)
 
-pub added-keeps : (w : Content) (may : Possible) (v : Content) → Allows may v → Allows (added w may) v
-added-keeps w None v a = tt
-added-keeps w (Some xs) v a = keeps-one w xs v a
-
 new-one : (w : Content) (xs : List Content) → IsOneOf (xs ++ w ∷ []) w
 new-one w [] = inl refl
 new-one w (x ∷ xs) = inr (new-one w xs)

@@ -73,13 +73,15 @@ module _ {X : Type 0} (Stands : FileMap → List X → Type 0) where
     pub clear : IsClear s
     pub either : (m : FileMap) → IsImage s m → IsEither P x m
 
-  -- A clear disk in recovery, with at most so many files under the next version at present.
+  -- A clear disk in recovery, of which a crash leaves only what stands for the list, with at most so many files under the
+  -- next version at present.
   pub record IsClearing (P : List X) (count : ℕ) (s : State) : Type 0 where
     pub clear : IsClear s
     pub stands : (m : FileMap) → IsImage s m → Stands m P
     pub few : HasAtMost count (length P + 1) s.present
 
--- All of a publication but the head is there, and stays in whatever a crash leaves.
+-- A clear disk with room for the new head, on which all of a publication but the head is there, and stays in whatever a
+-- crash leaves.
 pub record IsReady {X : Type 0} (Stands : FileMap → List X → Type 0) (Complete : List X → X → FileMap → Type 0) (P : List X) (x : X) (s : State) : Type 0 where
   pub clear : IsClear s
   pub room : HasRoom Stands P new_head_path s

@@ -28,7 +28,7 @@ pub record FolderCalls : Type 0 where
   pub make_dir : (folder : Text) (s : State) → IsImage s s.present → CallKeeps (IsImage s) s (after_make_dir folder s) (FailsMakeDir s (after_make_dir folder s))
   pub sync_dir : (folder : Text) (s : State) → IsImage s s.present → CallKeeps (IsImage s) s (after_sync_dir folder s) (λ new. new ≡ s)
 
--- The calls on one path, and any run of them.
+-- Whatever a crash leaves in and after each call on one path, and in any run of such calls, is of a kind.
 pub record PathCalls (Kind : FileMap → Type 0) (path : Text) (s : State) : Type 0 where
   pub create : CallKeeps Kind s (after_create path s) (Fails s (after_create path s))
   pub append : (piece : List ℕ) → CallKeeps Kind s (after_append path piece s) (FailsAppend path piece s)
@@ -52,7 +52,8 @@ pub record ClearStays : Type 0 where
   pub no_new_head : (s : State) → IsClear s → ClearKept (after_remove new_head_path s) (Fails s (after_remove new_head_path s))
   pub rename : (s : State) → IsClear s → ClearKept (after_rename new_head_path head_path s) (Fails s (after_rename new_head_path head_path s))
 
--- Where the files of a store lie.
+-- Each file of a version lies under the version's folder, no path lies under two of these folders, and neither head under
+-- any.
 pub record OwnPaths : Type 0 where
   pub files : (earlier : List (List Source)) (sources : List Source) (tiles : List Tile) (path : Text) (bytes : List ℕ)
       → IsVersionFile earlier sources tiles path bytes → IsOfVersion (length earlier + 1) path
@@ -83,8 +84,8 @@ module _ {X : Type 0} (Stands : FileMap → List X → Type 0) where
   abbrev pub LeftoverCalls : Type 0
   LeftoverCalls = (P : List X) (path : Text) (s : State) → IsImage s s.present → IsLeftover (length P) path → HasRoom Stands P path s → PathCalls (λ m. Stands m P) path s
 
-  -- Where there is room: on a whole disk for the new head, in the middle of a publication for each path, and in
-  -- recovery for each file that is there.
+  -- Where there is room: on a whole disk for the new head, in the middle of a publication with at most 65,535 files so far
+  -- for each path, and in recovery for each file that is there.
   pub record Room : Type 0 where
     pub whole : (P : List X) (s : State) → IsImage s s.present → IsWhole Stands P s → HasRoom Stands P new_head_path s
     pub middle : (P : List X) (files : FileMap) (synced : Text → Bool) (s : State) (path : Text) → IsMid Stands P files synced s
@@ -96,7 +97,7 @@ module _ {X : Type 0} (Stands : FileMap → List X → Type 0) where
     pub begins : (P : List X) (synced : Text → Bool) (s : State) → IsImage s s.present → IsClean Stands P s → IsMid Stands P (λ path. None) synced s
     pub back : (P : List X) (synced : Text → Bool) (s : State) → IsMid Stands P (λ path. None) synced s → IsClean Stands P s
 
-  -- A file is written and synced, in a folder that wasn't synced.
+  -- A file is written and synced, where at most 65,535 are there so far, in a folder that wasn't synced.
   abbrev pub FileStep : Type 0
   FileStep = (P : List X) (files : FileMap) (synced : Text → Bool) (s : State) (folder path : Text) (bytes : List ℕ) → IsImage s s.present
       → IsMid Stands P files synced s → HasAtMost 65535 (length P + 1) files → IsOfVersion (length P + 1) path → synced (folder_above path) ≡ false
@@ -107,7 +108,8 @@ module _ {X : Type 0} (Stands : FileMap → List X → Type 0) where
   FolderStep = (P : List X) (files : FileMap) (synced : Text → Bool) (s : State) (folder : Text) → IsImage s s.present
       → IsMid Stands P files synced s → IsMid Stands P files (with_folder synced folder) (after_sync_dir folder s)
 
-  -- A file is written and synced, and then its folder, as the record is.
+  -- A file is written and synced, where at most 65,535 are there so far, in a folder that wasn't synced, and then this
+  -- folder, as the record is.
   abbrev pub RecordStep : Type 0
   RecordStep = (P : List X) (files : FileMap) (synced : Text → Bool) (s : State) (path : Text) (bytes : List ℕ) → IsImage s s.present
       → IsMid Stands P files synced s → HasAtMost 65535 (length P + 1) files → IsOfVersion (length P + 1) path → synced (folder_above path) ≡ false

@@ -40,6 +40,7 @@ tile_file version all t = record { path = path version t; bytes = tile_bytes all
 abbrev pub files_of : List (List Source) → List Source → List Tile → List File
 files_of P x tiles = source_files (length P + 1) 1 x ++ map (tile_file (length P + 1) (sources_of (P ++ x ∷ []))) tiles
 
+-- Its record.
 abbrev pub record_of : List (List Source) → List Source → List Tile → File
 record_of P x tiles = record { path = record_path (length P + 1); bytes = record_text (length P + 1) (heads_of x) tiles }
 
@@ -57,6 +58,7 @@ abbrev pub steps_of : List (List Source) → List Source → List Tile → List 
 steps_of P x tiles = map write (files_of P x tiles) ++ (map sync (folders_of (files_of P x tiles)) ++ write_and_sync (record_of P x tiles) ∷ [])
 
 -- ---- what steps make
+-- What a step, and steps one after another, make of a disk.
 abbrev pub after_step : Step → State → State
 after_step (write file) s = after_write (folder_above file.path) file.path file.bytes s
 after_step (sync folder) s = after_sync_dir folder s
