@@ -20,9 +20,6 @@ is_absent : (file : Content) → None ≡ size_of file → None ≡ file
 is_absent None e = refl
 is_absent (Some bytes) e = cc
 
-pub not_there : (Tells : Type 0) (file : Content) → (Tells → None ≡ size_of file) → ReadsNot Tells file Absent
-not_there Tells file told = record { content = None; told = λ t. is_absent file (told t); unread = refl }
-
 zeros : (size : ℕ) → 67108864 < size → IsBigOf size (Some (replicate size 0))
 zeros size big = record { bytes = replicate size 0; there = refl; size_is = length-replicate size 0; big = big }
 
@@ -77,11 +74,3 @@ made_of_file Tells file w bytes (Err Range) reads made = record {
   told = λ t. sym (reads.told t);
   loaded = record { bytes = bytes; image = record { there = refl; small = reads.small; sound = made.0 }; none = made.1 };
 }
-
-pub not_of_file : (Tells : Type 0) (file : Content) (w : FileSource) (error : LoadError) → ReadsNot Tells file error → LoadOutcome Tells file w (Err error)
-not_of_file Tells file w Memory not = record { content = not.content; told = not.told; loaded = tt }
-not_of_file Tells file w Shelf not = record { content = not.content; told = not.told; loaded = tt }
-not_of_file Tells file w Absent not = record { content = not.content; told = not.told; loaded = not.unread }
-not_of_file Tells file w (Big size) not = record { content = not.content; told = not.told; loaded = not.unread }
-not_of_file Tells file w (Input error) not = absurd not.unread
-not_of_file Tells file w Range not = absurd not.unread

@@ -38,7 +38,7 @@ one_number (pos m) u v w h eu ev = same_multiple u v m (omega (arith, ints)) (eu
 one_number (negsuc m) u v w h eu ev = absurd (omega (arith, ints))
 
 -- a fraction is one number of units at most
-one_units : (n d u v : ℤ) → IsFraction n d u → IsFraction n d v → u ≡ v
+pub one_units : (n d u v : ℤ) → IsFraction n d u → IsFraction n d v → u ≡ v
 one_units n d u v fu fv = one_number d u v _ fu.positive fu.value fv.value
 
 same_head : (k k' : Kind) (a a' b b' c c' d d' : ℤ) (r r' q q' : ℕ) → k ≡ k' → a ≡ a' → b ≡ b' → c ≡ c' → d ≡ d' → r ≡ r' → q ≡ q' → IsHead k a b c d r q → IsHead k' a' b' c' d' r' q'

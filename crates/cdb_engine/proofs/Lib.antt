@@ -6,3 +6,5 @@ pub mod MaterialPosts
 pub mod RasterLaws
 pub mod SpelledLaws
 pub mod TileAnswers
+pub mod OneSource
+pub mod AnswerLaws

@@ -31,9 +31,6 @@ pub no_row : (w : InlineSource) (v : ℤ) (kind : Kind) (rows cols : ℕ) → ki
 no_row w v kind rows cols k ev er ec none s spelled =
     none (rw (ev, k, er, ec) (posts_allowed s w.head.kind (none_of w.head.kind) _ spelled.head.kind spelled.posts))
 
-pub no_file_head : (w : FileSource) (bytes : Bytes) (h : Head) (rows cols : ℕ) → h ≡ w.head → rows ≡ image_length bytes → cols ≡ image_width bytes → SpellsNoHead h rows cols → SpellsNone (SpellsLoaded w bytes)
-no_file_head w bytes h rows cols e er ec none s spelled = none s.head (rw (e, er, ec) spelled.head)
-
 pub no_file_row : (w : FileSource) (bytes : Bytes) (v : ℤ) (kind : Kind) (rows : ℕ) → kind ≡ w.head.kind → v ≡ w.novalue → rows ≡ image_length bytes
     → (All (IsAllowed kind v) (last_first rows (row_of_pixels bytes)) → ⊥) → SpellsNone (SpellsLoaded w bytes)
 no_file_row w bytes v kind rows k ev er none s spelled =

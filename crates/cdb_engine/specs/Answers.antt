@@ -85,12 +85,14 @@ Counts heads (Ok files) = HasFiles heads files
 Counts heads (Err (count.Large load)) = IsLoad heads load × (16384 < load)
 Counts heads (Err count.Memory) = Unit {0}
 
--- the file of a tile is made of sources, where one of them reaches it
+-- some source reaches the tile, and these are the bytes of its file, so many
 pub record IsFileOf (sources : List Source) (t : Tile) (count : ℕ) (bytes : List ℕ) : Type 0 where
   pub reached : Reached (heads_of sources) t
   pub bytes_are : bytes ≡ tile_bytes sources t
   pub count_is : count ≡ length bytes
 
+-- what a request for a tile makes of sources: its file; nothing, where none of them reaches it; nothing, where memory was
+-- refused
 abbrev pub IsMade : List Source → Tile → Result Reply AllocError → List ℕ → Type 0
 IsMade sources t (Ok Missing) bytes = (Reached (heads_of sources) t → ⊥) × (bytes ≡ [])
 IsMade sources t (Ok (Bytes count)) bytes = IsFileOf sources t count bytes

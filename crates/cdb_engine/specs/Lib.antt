@@ -1,4 +1,5 @@
 pub mod Answers
+pub mod Laws
 pub mod Loading
 pub mod Pieces
 pub mod Rasters

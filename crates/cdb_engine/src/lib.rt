@@ -7,6 +7,7 @@ mod errors;
 mod file;
 mod head_words;
 mod image_rows;
+pub mod laws;
 mod posts;
 mod publications;
 mod raster;

@@ -1,4 +1,4 @@
-ghost use Rattle.std.specs.Prelude.{◌≡◌, ◌+◌, ◌^◌, ◌<◌, List, [], ◌∷◌, ◌++◌, length, sum, take, IfSome, OnOk, OnErr};
+ghost use Rattle.std.specs.Prelude.{◌≡◌, ◌+◌, ◌^◌, ◌<◌, ◌≤◌, List, [], ◌∷◌, ◌++◌, length, sum, take, MatchOption, OnOk, OnErr};
 ghost use Rattle.cdb_source.specs.declared.source.Source as model;
 ghost use Rattle.cdb_model.specs.Machine.{sources_up_to};
 ghost use Rattle.cdb_engine.specs.Pieces.{pieces};
@@ -40,9 +40,9 @@ impl Publications {
         self.counts.len()
     }
 
-    /// The version of the next publication, where it has 32 bits.
+    /// The version of the next publication, or `None` where it has more than 32 bits.
     pub fn next_version(&self) -> Option<u32>
-        ensures { IfSome result (λ version. version ≡ length self.now + 1) }
+        ensures { MatchOption result (2 ^ 32 ≤ length self.now + 1) (λ version. version ≡ length self.now + 1) }
     {
         match u32::try_from(self.counts.len()) {
             Ok(count) => count.checked_add(1),

@@ -1,4 +1,4 @@
-use crate::{Engine, InlineError, InlineOrder, Kind, Opened, PublishError, Reply, TileError};
+use crate::{Engine, InlineError, InlineOrder, Kind, Opened, PublishError, Reply, TileError, laws};
 use arrayvec::ArrayVec;
 use cdb_grid::{Arc, Family, Fraction, Level, Tile, tile_at};
 use std::alloc::Global;
@@ -131,5 +131,7 @@ fn sessions_end(rt: HostRuntime) -> Result<(), Fail> {
     assert!(rt; engine.tile(1, &square) == Ok(Reply::Missing));
     assert!(rt; engine.close_session(1) == Ok(()));
     assert!(rt; engine.tile(1, &square) == Err(TileError::Unknown));
+    laws::one_answer();
+    laws::free_answers_change_nothing();
     Ok(())
 }
