@@ -1,7 +1,7 @@
 -- How a run ends.
 use Rattle.std.proofs.Common.{◌≡◌, ◌≢◌, ℕ, ◌+◌, ◌<◌, ◌≤◌, ◌^◌, List, [], ◌∷◌, ◌++◌, length, Option, None, Some, IfSome, inl, inr, refl, ap, sym, ◌∙◌, append_assoc, append-nil, subst, arith, length-append}
-use Rattle.std.specs.Io.KnownBytes.{Appends, Keeps, Consumes, IsAtEnd}
-use Rattle.std.proofs.KnownBytes.{Appends-nil, Appends-trans, Consumes-nil, Consumes-trans, Consumes-kept}
+use Rattle.std.specs.Io.KnownBytes.{Appends, Consumes, IsAtEnd}
+use Rattle.std.proofs.KnownBytes.{Appends-nil, Appends-trans, Consumes-nil, Consumes-trans}
 use Rattle.cdb_model.specs.Text.{Text}
 use Rattle.cdb_model.specs.Maps.{FileMap}
 use Rattle.cdb_model.specs.Machine.{State, Answer, start}
@@ -41,60 +41,6 @@ stops_memory tells files before left written =
       appended = Appends-nil written;
       writes = refl;
       ends = (refl, refl);
-    }
-
--- a read failed, and took nothing
-pub stops_input_fault : (tells : Type 0) (files : FileMap) (before faults : ℕ) (left left' left'' written written' : Option (List ℕ)) (state : State) (kept : Option (List ℕ)) (taken : ℕ)
-    → Reading tells files before faults left left' written written' state kept taken → Keeps left' left'' → taken < 2 ^ 32 → Stops tells files before faults left left'' written written' InputFault
-stops_input_fault tells files before faults left left' left'' written written' state kept taken r keeps few =
-    record {
-      read = r.read;
-      unread = [];
-      taken = subst (Consumes left left'') (sym (append-nil r.read)) (Consumes-kept left left' left'' r.read r.input keeps);
-      few = omega (arith, few, r.count, ap length (append-nil r.read));
-      lines = r.sofar.lines;
-      rest = r.sofar.rest;
-      cut = r.sofar.cut;
-      no_quit = r.sofar.no_quit;
-      aim = InputFault;
-      aims = refl;
-      heard = r.sofar.lines;
-      hears = refl;
-      answers = r.sofar.answers;
-      state = state;
-      run = r.sofar.run;
-      counted = r.sofar.counted;
-      wrote = texts_of r.sofar.answers;
-      appended = r.sofar.appended;
-      writes = refl;
-      ends = (refl, subst (λ n. n < 2 ^ 32) r.count few);
-    }
-
--- the bytes that may be taken were taken
-pub stops_too_long : (tells : Type 0) (files : FileMap) (before faults : ℕ) (left left' written written' : Option (List ℕ)) (state : State) (kept : Option (List ℕ)) (taken : ℕ)
-    → Reading tells files before faults left left' written written' state kept taken → taken ≡ 2 ^ 32 → Stops tells files before faults left left' written written' TooLong
-stops_too_long tells files before faults left left' written written' state kept taken r all =
-    record {
-      read = r.read;
-      unread = [];
-      taken = subst (Consumes left left') (sym (append-nil r.read)) r.input;
-      few = omega (arith, all, r.count, ap length (append-nil r.read));
-      lines = r.sofar.lines;
-      rest = r.sofar.rest;
-      cut = r.sofar.cut;
-      no_quit = r.sofar.no_quit;
-      aim = TooLong;
-      aims = refl;
-      heard = r.sofar.lines;
-      hears = refl;
-      answers = r.sofar.answers;
-      state = state;
-      run = r.sofar.run;
-      counted = r.sofar.counted;
-      wrote = texts_of r.sofar.answers;
-      appended = r.sofar.appended;
-      writes = refl;
-      ends = (refl, sym r.count ∙ all);
     }
 
 -- `quit` was among the bytes of a piece

@@ -1,6 +1,5 @@
 -- A turn of the machine, from its event.
-use Rattle.std.proofs.Common.{◌≡◌, ℕ, ◌+◌, ◌<◌, ◌≤◌, List, [], ◌∷◌, ◌++◌, length, None, Result, Ok, Err, IfOk, OnOk, OnErr, refl, sym, ap, subst, arith}
-use Rattle.cdb_model.specs.Causes.{Rose}
+use Rattle.std.proofs.Common.{◌≡◌, ℕ, ◌+◌, ◌<◌, List, [], ◌∷◌, ◌++◌, length, None, Result, Ok, Err, IfOk, OnOk, OnErr, refl, sym, ap, subst}
 use Rattle.cdb_grid.specs.declared.tile.Tile.{Tile}
 use Rattle.cdb_source.specs.declared.kind.Kind.TheVariants.{Elevation}
 use Rattle.cdb_model.specs.Commands as commands
@@ -22,29 +21,11 @@ use Rattle.cdb_engine.specs.declared.errors.SubmitRefused.{SubmitRefused}
 use Rattle.cdb_front.specs.Hearing.{SaysAsked}
 use Rattle.cdb_front.specs.declared.heard.Asked.{Asked}
 use Rattle.cdb_front.specs.declared.heard.Asked.TheVariants as asked
-use Rattle.cdb_model.specs.Run.{Turn, Means, shelf_fault}
-use Rattle.cdb_front.specs.Answers.{meant, HasLength, IsBare, IsQuiet}
-use Rattle.cdb_front.specs.Progress.{Holds, HasNothing, LoadStep, Counts}
+use Rattle.cdb_model.specs.Run.{Turn}
+use Rattle.cdb_front.specs.Answers.{meant}
+use Rattle.cdb_front.specs.Progress.{Holds, HasNothing, LoadStep}
 use Rattle.cdb_front.specs.declared.answer.Answer as front
 use Rattle.cdb_front.specs.declared.answer.Answer.TheVariants as answers
-
--- a turn that needs nothing of the shelf is one over every shelf
-means_any : (Has : Text → Content → Type 0) (event : Event) (command : Command) → Means HasNothing event command → Means Has event command
-means_any Has (machine.give w) command m = m
-means_any Has (machine.load w content) command m = absurd m.2
-means_any Has machine.begin command m = m
-means_any Has machine.finish command m = m
-means_any Has machine.connect command m = m
-means_any Has (machine.ask id t) command m = m
-means_any Has (machine.disconnect id) command m = m
-means_any Has machine.tell command m = m
-means_any Has machine.overlong command m = m
-means_any Has machine.unreadable command m = m
-means_any Has (machine.misnamed place) command m = m
-means_any Has machine.unbuilt command m = m
-
-pub any_shelf : (Has : Text → Content → Type 0) (old new : State) (command : Command) (answer : Answer) → Turn HasNothing old command answer new → Turn Has old command answer new
-any_shelf Has old new command answer t = record { event = t.event; meant = means_any Has t.event command t.meant; step = t.step }
 
 -- the turn of each kind of event, from its step and the answer that is said
 pub publish_turn : (old new : State) (answer said : Answer) → said ≡ answer → Step old machine.begin answer new → Turn HasNothing old (commands.said grammar.publish) said new
@@ -120,23 +101,3 @@ name_turn Has old a place command e says = record { event = machine.misnamed pla
 
 pub step_turn : (Has : Text → Content → Type 0) (old : State) (l : Line) (n : ℕ) → l ≡ line.Step n → Turn Has old (commands.said (sentence_in l)) machine.not_built old
 step_turn Has old l n e = unbuilt_turn Has old (sentence_in l) (subst (λ (k : Line). IsUnbuilt (sentence_in k)) (sym e) tt)
-
--- an answer without bytes has the length of none
-pub bare_length : (answer : front.Answer) (reply : List ℕ) → IsBare answer → HasLength answer reply
-bare_length (answers.Tile count) reply bare = absurd bare
-bare_length _ reply bare = tt
-
--- an answer that doesn't say that the shelf failed leaves its count
-pub quiet_counts : (now : ℕ) (answer : front.Answer) (reply : List ℕ) → IsQuiet answer → Counts now now (meant answer reply ∷ [])
-quiet_counts now answer reply quiet short = let none : shelf_fault (meant answer reply) ≡ 0 = by answer quiet in omega (arith, none)
-  where
-    by : (a : front.Answer) → IsQuiet a → shelf_fault (meant a reply) ≡ 0
-    by answers.Shelf quiet = absurd quiet
-    by _ quiet = refl
-
--- an answer that says so comes where the count rose
-pub rose_counts : (before now : ℕ) → Rose before now → Counts before now (machine.shelf ∷ [])
-rose_counts before now rose short = omega (arith, rose)
-
-pub later_counts : (before now : ℕ) (answer : Answer) → shelf_fault answer ≡ 0 → before ≤ now → Counts before now (answer ∷ [])
-later_counts before now answer none later short = omega (arith, none)

@@ -66,8 +66,8 @@ pub data EndsWith (status : Status) (old new : Option (List ℕ)) : Status → T
 abbrev pub IsLineEnd : Option (List ℕ) → Text → Type 0
 IsLineEnd left unread = ((unread ≡ []) × IsAtEnd left) ⊎ ((after : Text) × (unread ≡ 10 ∷ after))
 
--- why the run would have ended: the end of the input, or the line `quit` with its line feed, before 2 ^ 32 bytes; a failed
--- read; 2 ^ 32 bytes; nothing was read yet
+-- why the run would have ended: the end of the input after fewer than 2 ^ 32 bytes, or the line `quit`, whose line feed is
+-- at most the last of 2 ^ 32; a failed read; 2 ^ 32 bytes; nothing was read yet
 abbrev pub Ends : Status → Option (List ℕ) → Text → Text → Text → Type 0
 Ends Done left read unread rest =
     (length read < 2 ^ 32) × (((unread ≡ []) × IsAtEnd left) ⊎ ((line_command rest ≡ said.quit) × ((after : Text) × (unread ≡ 10 ∷ after))))

@@ -59,6 +59,7 @@ impl Input for MemInput {
         ensures calls { self.new.calls ≡ min (self.old.calls + 1) (2 ^ 64 - 1) }
         ensures amount { IfOk result (λ n. n ≡ min (length into.old) (min self.old.most (length self.old.left))) }
         ensures faults { OnOk result (self.new.faults ≡ self.old.faults) }
+        ensures fault { OnErr result (self.new.faults ≡ min (self.old.faults + 1) (2 ^ 64 - 1)) }
         ensures same { (self.new.most ≡ self.old.most) × (self.new.fails ≡ self.old.fails) }
     {
         self.calls = self.calls.saturating_add(1);

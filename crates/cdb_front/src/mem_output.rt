@@ -1,6 +1,6 @@
 ghost use Rattle.std.specs.Prelude.{◌≡◌, ℕ, ◌+◌, ◌-◌, ◌^◌, ◌<◌, ◌≤◌, ◌↔◌, ◌⊎◌, ◌++◌, [], min, List, length, take, Some, IsErr, IfOk, OnOk, OnErr, Contains, MatchResult};
 ghost use Rattle.std.specs.Io.KnownBytes.{Appends};
-ghost use Rattle.cdb_model.specs.Causes.{HasCause, Rose};
+ghost use Rattle.cdb_model.specs.Causes.{HasCause};
 ghost use Rattle.cdb_front.specs.Devices.{WritesLess, Receipt};
 
 use crate::failed::Failed;
@@ -67,11 +67,13 @@ impl Output for MemOutput {
 
         // It fails at the listed calls, and else only where memory was refused.
         ensures listed { Contains self.old.fails self.new.calls → IsErr result }
-        ensures failed { OnErr result (Contains self.old.fails self.new.calls ⊎ Rose self.old.refused self.new.refused) }
+        ensures failed { OnErr result (Contains self.old.fails self.new.calls ⊎ (self.new.refused ≡ min (self.old.refused + 1) (2 ^ 64 - 1))) }
+        ensures unrefused { Contains self.old.fails self.new.calls → self.new.refused ≡ self.old.refused }
         ensures calls { self.new.calls ≡ min (self.old.calls + 1) (2 ^ 64 - 1) }
         ensures whole { OnOk result (self.new.written ≡ self.old.written ++ piece.now) }
         ensures nothing { OnErr result (self.new.written ≡ self.old.written) }
         ensures counts { OnOk result ((self.new.faults ≡ self.old.faults) × (self.new.refused ≡ self.old.refused)) }
+        ensures fault { OnErr result (self.new.faults ≡ min (self.old.faults + 1) (2 ^ 64 - 1)) }
         ensures same { self.new.fails ≡ self.old.fails }
     {
         self.calls = self.calls.saturating_add(1);
