@@ -3,81 +3,83 @@
 use crate::script::{HEAD, Row, is_answered};
 use std::test::Fail;
 
+/// Scripts of sources of one post.
+static SCRIPTS: [Row; 8] = [
+    // Nothing is answered where nothing is asked.
+    Row {
+        script: b"",
+        answers: &[],
+    },
+    // The last line needs no line feed.
+    Row {
+        script: b"open\ntile 1 N46E007_D001_S001_T001_LC10_U0_R0.tif",
+        answers: &[b"session 1 0\nmissing\n"],
+    },
+    // One source, from the line to the tile's bytes.
+    Row {
+        script: b"inline elev -10 46 7 1 1 1 1 500\npublish\nstep all\nopen\ntile 1 N46E007_D001_S001_T001_LC10_U0_R0.tif\n",
+        answers: &[
+            b"source 1\nbegun 1 3\npublished 1\nsession 1 1\ntile 188\n",
+            &HEAD,
+            &[0xF4, 0x01],
+        ],
+    },
+    // A tile that is reached and has no value is there.
+    Row {
+        script: b"inline elev -10 46 7 1 1 1 1 -32768\npublish\nstep all\nopen\ntile 1 N46E007_D001_S001_T001_LC10_U0_R0.tif\n",
+        answers: &[
+            b"source 1\nbegun 1 3\npublished 1\nsession 1 1\ntile 188\n",
+            &HEAD,
+            &[0x00, 0x80],
+        ],
+    },
+    // A newer source without a value leaves the older one's.
+    Row {
+        script: b"inline elev -10 46 7 1 1 1 1 500\ninline elev -10 46 7 1 1 1 1 -32768\npublish\nstep all\nopen\ntile 1 N46E007_D001_S001_T001_LC10_U0_R0.tif\n",
+        answers: &[
+            b"source 1\nsource 2\nbegun 1 3\npublished 1\nsession 1 1\ntile 188\n",
+            &HEAD,
+            &[0xF4, 0x01],
+        ],
+    },
+    // Two geocells have six files; numbers may have leading zeros, and no plus.
+    Row {
+        script: b"inline elev -10 -50 -180 1 1 1 1 -1\ninline elev -10 49 179 1 1 1 1 +1\ninline elev -010 049/1 0179 01 1/1 1 01 -01\npublish\nstep all\nopen\ntile 1 S50W180_D001_S001_T001_LC10_U0_R0.tif\ntile 01 N49E179_D001_S001_T001_LC10_U0_R0.tif\n",
+        answers: &[
+            b"source 1\nrefused syntax\nsource 2\nbegun 1 6\npublished 1\nsession 1 1\ntile 188\n",
+            &HEAD,
+            &[0xFF, 0xFF],
+            b"tile 188\n",
+            &HEAD,
+            &[0xFF, 0xFF],
+        ],
+    },
+    // A session stays at its version.
+    Row {
+        script: b"inline elev -10 46 7 1 1 1 1 500\npublish\nstep all\nopen\ntile 1 N46E007_D001_S001_T001_LC10_U0_R0.tif\ninline elev -10 46 7 1 1 1 1 600\npublish\nstep all\ntile 1 N46E007_D001_S001_T001_LC10_U0_R0.tif\nopen\ntile 2 N46E007_D001_S001_T001_LC10_U0_R0.tif\nversions\n",
+        answers: &[
+            b"source 1\nbegun 1 3\npublished 1\nsession 1 1\ntile 188\n",
+            &HEAD,
+            &[0xF4, 0x01],
+            b"source 1\nbegun 2 3\npublished 2\ntile 188\n",
+            &HEAD,
+            &[0xF4, 0x01],
+            b"session 2 2\ntile 188\n",
+            &HEAD,
+            &[0x58, 0x02],
+            b"versions 2\n",
+        ],
+    },
+    // Blank lines have no answer, and nothing after `quit` is read.
+    Row {
+        script: b"\n\nopen\n\nquit\nopen\n",
+        answers: &[b"session 1 0\n"],
+    },
+];
+
 #[test]
 fn scripts_are_answered(rt: HostRuntime) -> Result<(), Fail> {
-    let rows = [
-        // Nothing is answered where nothing is asked.
-        Row {
-            script: b"",
-            answers: &[],
-        },
-        // The last line needs no line feed.
-        Row {
-            script: b"open\ntile 1 N46E007_D001_S001_T001_LC10_U0_R0.tif",
-            answers: &[b"session 1 0\nmissing\n"],
-        },
-        // One source, from the line to the tile's bytes.
-        Row {
-            script: b"inline elev -10 46 7 1 1 1 1 500\npublish\nstep all\nopen\ntile 1 N46E007_D001_S001_T001_LC10_U0_R0.tif\n",
-            answers: &[
-                b"source 1\nbegun 1 3\npublished 1\nsession 1 1\ntile 188\n",
-                &HEAD,
-                &[0xF4, 0x01],
-            ],
-        },
-        // A tile that is reached and has no value is there.
-        Row {
-            script: b"inline elev -10 46 7 1 1 1 1 -32768\npublish\nstep all\nopen\ntile 1 N46E007_D001_S001_T001_LC10_U0_R0.tif\n",
-            answers: &[
-                b"source 1\nbegun 1 3\npublished 1\nsession 1 1\ntile 188\n",
-                &HEAD,
-                &[0x00, 0x80],
-            ],
-        },
-        // A newer source without a value leaves the older one's.
-        Row {
-            script: b"inline elev -10 46 7 1 1 1 1 500\ninline elev -10 46 7 1 1 1 1 -32768\npublish\nstep all\nopen\ntile 1 N46E007_D001_S001_T001_LC10_U0_R0.tif\n",
-            answers: &[
-                b"source 1\nsource 2\nbegun 1 3\npublished 1\nsession 1 1\ntile 188\n",
-                &HEAD,
-                &[0xF4, 0x01],
-            ],
-        },
-        // Two geocells have six files; numbers may have leading zeros, and no plus.
-        Row {
-            script: b"inline elev -10 -50 -180 1 1 1 1 -1\ninline elev -10 49 179 1 1 1 1 +1\ninline elev -010 049/1 0179 01 1/1 1 01 -01\npublish\nstep all\nopen\ntile 1 S50W180_D001_S001_T001_LC10_U0_R0.tif\ntile 01 N49E179_D001_S001_T001_LC10_U0_R0.tif\n",
-            answers: &[
-                b"source 1\nrefused syntax\nsource 2\nbegun 1 6\npublished 1\nsession 1 1\ntile 188\n",
-                &HEAD,
-                &[0xFF, 0xFF],
-                b"tile 188\n",
-                &HEAD,
-                &[0xFF, 0xFF],
-            ],
-        },
-        // A session stays at its version.
-        Row {
-            script: b"inline elev -10 46 7 1 1 1 1 500\npublish\nstep all\nopen\ntile 1 N46E007_D001_S001_T001_LC10_U0_R0.tif\ninline elev -10 46 7 1 1 1 1 600\npublish\nstep all\ntile 1 N46E007_D001_S001_T001_LC10_U0_R0.tif\nopen\ntile 2 N46E007_D001_S001_T001_LC10_U0_R0.tif\nversions\n",
-            answers: &[
-                b"source 1\nbegun 1 3\npublished 1\nsession 1 1\ntile 188\n",
-                &HEAD,
-                &[0xF4, 0x01],
-                b"source 1\nbegun 2 3\npublished 2\ntile 188\n",
-                &HEAD,
-                &[0xF4, 0x01],
-                b"session 2 2\ntile 188\n",
-                &HEAD,
-                &[0x58, 0x02],
-                b"versions 2\n",
-            ],
-        },
-        // Blank lines have no answer, and nothing after `quit` is read.
-        Row {
-            script: b"\n\nopen\n\nquit\nopen\n",
-            answers: &[b"session 1 0\n"],
-        },
-    ];
-    for row in &rows {
+    for row in SCRIPTS.iter() {
         assert!(rt; is_answered(rt.alloc(), row)?);
     }
     Ok(())
