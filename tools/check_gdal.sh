@@ -3,7 +3,7 @@
 # and its files of other forms are refused by the reader's cause. Skipped where GDAL isn't installed.
 # Needs `rt`, which builds the program crates/cdb_tiff_cli.
 set -u
-cd "$(dirname "$0")/../crates/cdb_tiff_cli" || exit 2
+. "$(dirname "$0")/built.sh" || exit 2
 
 for program in gdal_translate gdalinfo; do
     if ! command -v "$program" >/dev/null; then
@@ -17,11 +17,7 @@ trap 'rm -rf "$folder"' EXIT
 failures=0
 checks=0
 
-# The program, built once: `rt run` leaves it in out/.
-rt run <stdin >"$folder/worked" 2>"$folder/log" || { cat "$folder/log"; exit 2; }
-cmp -s "$folder/worked" stdout || { echo "the program doesn't write its stored output"; exit 1; }
-reader=$(find -L out -type f -perm -u+x -newer stdin -name 'cdb_tiff_cli*' | head -n 1)
-[ -n "$reader" ] || { echo "the built program isn't found"; exit 2; }
+reader=$(built cdb_tiff_cli "$folder") || exit
 
 fail() {
     echo "differs: $1"

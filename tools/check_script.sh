@@ -4,7 +4,7 @@
 # publications of few, and the tiles of a level. Needs `rt`, which builds the program crates/cdb_cli, and
 # python3. The seed is the first argument, or 1.
 set -u
-cd "$(dirname "$0")/../crates/cdb_cli" || exit 2
+. "$(dirname "$0")/built.sh" || exit 2
 
 if ! command -v python3 >/dev/null; then
     echo "skipped: python3 is missing"
@@ -14,9 +14,7 @@ fi
 folder=$(mktemp -d)
 trap 'rm -rf "$folder"' EXIT
 
-rt run <stdin >"$folder/worked" 2>"$folder/log" || { cat "$folder/log"; exit 2; }
-program=$(find -L out -type f -perm -u+x -newer stdin -name 'cdb_cli*' | head -n 1)
-[ -n "$program" ] || { echo "the built program isn't found"; exit 2; }
+program=$(built cdb_cli "$folder") || exit
 
 python3 - "$program" "${1:-1}" <<'PYTHON'
 import random

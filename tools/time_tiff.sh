@@ -3,7 +3,7 @@
 # file, as the ratio of the times of 20 runs. Needs `rt`, which builds the program crates/cdb_tiff_cli,
 # and python3, which writes the files.
 set -u
-cd "$(dirname "$0")/../crates/cdb_tiff_cli" || exit 2
+. "$(dirname "$0")/built.sh" || exit 2
 
 if ! command -v python3 >/dev/null; then
     echo "skipped: python3 is missing"
@@ -13,9 +13,7 @@ fi
 folder=$(mktemp -d)
 trap 'rm -rf "$folder"' EXIT
 
-rt run <stdin >"$folder/worked" 2>"$folder/log" || { cat "$folder/log"; exit 2; }
-reader=$(find -L out -type f -perm -u+x -newer stdin -name 'cdb_tiff_cli*' | head -n 1)
-[ -n "$reader" ] || { echo "the built program isn't found"; exit 2; }
+reader=$(built cdb_tiff_cli "$folder") || exit
 
 python3 - "$folder" <<'PYTHON'
 import struct
