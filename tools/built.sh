@@ -1,5 +1,13 @@
 # Sourced by the scripts beside it.
 
+# need PROGRAM..: ends the script where one of these programs is missing
+need() {
+    local program
+    for program in "$@"; do
+        command -v "$program" >/dev/null || { echo "skipped: $program is missing"; exit 0; }
+    done
+}
+
 # built NAME FOLDER: builds the program crates/NAME with `rt`, compares its stored run, writes what is
 # wrong to the standard error, and prints the path of the built program. FOLDER takes what it wrote.
 built() {

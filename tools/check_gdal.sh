@@ -4,13 +4,7 @@
 # Needs `rt`, which builds the program crates/cdb_tiff_cli.
 set -u
 . "$(dirname "$0")/built.sh" || exit 2
-
-for program in gdal_translate gdalinfo; do
-    if ! command -v "$program" >/dev/null; then
-        echo "skipped: $program is missing"
-        exit 0
-    fi
-done
+need gdal_translate gdalinfo
 
 folder=$(mktemp -d)
 trap 'rm -rf "$folder"' EXIT

@@ -5,11 +5,7 @@
 # python3. The seed is the first argument, or 1.
 set -u
 . "$(dirname "$0")/built.sh" || exit 2
-
-if ! command -v python3 >/dev/null; then
-    echo "skipped: python3 is missing"
-    exit 0
-fi
+need python3
 
 folder=$(mktemp -d)
 trap 'rm -rf "$folder"' EXIT

@@ -4,11 +4,7 @@
 # and python3, which writes the files.
 set -u
 . "$(dirname "$0")/built.sh" || exit 2
-
-if ! command -v python3 >/dev/null; then
-    echo "skipped: python3 is missing"
-    exit 0
-fi
+need python3
 
 folder=$(mktemp -d)
 trap 'rm -rf "$folder"' EXIT
