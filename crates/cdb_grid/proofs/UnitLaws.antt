@@ -57,13 +57,6 @@ steps-in-degree h le =
 pub step-dvd-degree : (h : ℕ) → h ≤ 34 → step h ∣ degree
 step-dvd-degree h le = step-dvd h 34 le
 
-pub step-le-degree : (h : ℕ) → h ≤ 34 → step h ≤ degree
-step-le-degree h le =
-    let e : 2 ^ (34 - h) * step h ≡ degree = steps-in-degree h le in
-    let p : 0 < 2 ^ (34 - h) = pow_pos (34 - h) in
-    let m : 1 * step h ≤ 2 ^ (34 - h) * step h = mul-le-mul_right (step h) p in
-    omega arith
-
 -- the tiles of a height along a side of a geocell, and the elements along theirs, are its rows
 pub rows-in-cell : (h : ℕ) → tiles_of h * side_of h ≡ 2 ^ (34 - h)
 rows-in-cell h =
@@ -92,8 +85,8 @@ pub shifted : (h : ℕ) → h ≤ 34 → (1 * 2 ^ h) % 2 ^ 64 ≡ 2 ^ h
 shifted h le = let lt : h < 64 = omega arith in one_shl h 64 lt
 
 -- the powers of two that heights and sides give
-pub power_least : (h : ℕ) → 1 ≤ h → 2 ≤ 2 ^ h
-power_least h low = pow_mono {i = 1} low
+pub power_pos : (h : ℕ) → 1 ≤ 2 ^ h
+power_pos h = pow_pos h
 
 pub power_most : (h : ℕ) → h ≤ 34 → 2 ^ h ≤ 17179869184
 power_most h high = pow_mono {j = 34} high

@@ -11,7 +11,7 @@ pub struct Arc {
 }
 
 /// The arc units of one degree, `2025 * 2^34`.
-pub(crate) const DEGREE: u64 = 34_789_235_097_600;
+pub const DEGREE: u64 = 34_789_235_097_600;
 
 impl Arc {
     /// `n/d` degrees, or `None` where `d` is below 1, `n/d` isn't a whole number of units, or it is
@@ -29,7 +29,7 @@ impl Arc {
     }
 }
 
-// `n/d` degrees in units, where they are a whole number and at most 360 degrees.
+/// `n/d` degrees in units, where they are a whole number and at most 360 degrees.
 fn whole_units(n: u64, d: u64) -> Option<u64>
     requires { 0 < d }
     ensures { MatchOption result ((u : ℕ) → u ≤ 360 * degree → u * d ≡ n * degree → ⊥)

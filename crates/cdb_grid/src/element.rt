@@ -25,24 +25,24 @@ pub fn place(tile: &Tile, row: u32, col: u32) -> (Arc, Arc)
     units::arcs(north, east)
 }
 
-// The arc units from the edge of a geocell to the cell at an index of a tile, where a cell is one
-// step wide.
+/// The arc units from the edge of a geocell to the cell at an index of a tile, where a cell is one
+/// step wide.
 fn along(level: Level, tile: u32, index: u32) -> u64
     requires tile { tile < tiles_of (height_of level.number) }
     requires index { index < side_of (height_of level.number) }
     ensures value { let h = height_of level.number in result ≡ (tile * side_of h + index) * step h }
     ensures most { let h = height_of level.number in result + step h ≤ degree }
 {
-    (tile as u64 * units::side(level) as u64 + index as u64) * units::step(level)
+    (tile as u64 * units::side(level) as u64 + index as u64) * units::step_of(level)
 }
 
-// How far north of its cell's corner an element stands.
+/// How far north of its cell's corner an element stands.
 fn inset(family: Family, level: Level) -> u64
     ensures value { result ≡ inset family (height_of level.number) }
     ensures most { result < step (height_of level.number) }
 {
     match family {
-        Family::Mat => units::step(level) / 2,
+        Family::Mat => units::step_of(level) / 2,
         Family::Elev | Family::Low | Family::High => 0,
     }
 }

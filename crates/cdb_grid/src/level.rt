@@ -21,14 +21,14 @@ impl Level {
         }
     }
 
-    // The next finer level, or `None` at level 23.
+    /// The next finer level, or `None` at level 23.
     pub(crate) fn finer(self) -> Option<Level>
         ensures { MatchOption result (self.number ≡ pos 23) (λ level. self.number +ℤ pos 1 ≡ level.number) }
     {
         Level::new(self.number as i32 + 1)
     }
 
-    // The next coarser level, or `None` at level -10.
+    /// The next coarser level, or `None` at level -10.
     pub(crate) fn coarser(self) -> Option<Level>
         ensures { MatchOption result (self.number ≡ negsuc 9) (λ level. level.number +ℤ pos 1 ≡ self.number) }
     {

@@ -15,10 +15,10 @@ mod spot;
 #[cfg(test)]
 mod tests;
 mod tile;
-mod units;
+pub mod units;
 mod zone;
 
-pub use arc::Arc;
+pub use arc::{Arc, DEGREE};
 pub use element::place;
 pub use family::Family;
 pub use fraction::Fraction;

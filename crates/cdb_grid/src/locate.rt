@@ -1,5 +1,5 @@
-ghost use Rattle.std.specs.Prelude.{◌≡◌, ◌↔◌, ◌%◌, ◌<◌, ◌≤◌, ◌+◌, ◌*◌, IsSome, IfSome};
-ghost use Rattle.cdb_grid.specs.Units.{degree, height_of, step, tiles_of, side_of, width_at, row_of, column_of, IsOnGlobe};
+ghost use Rattle.std.specs.Prelude.{◌≡◌, ◌↔◌, ◌<◌, ◌≤◌, ◌+◌, ◌*◌, IsSome, IfSome};
+ghost use Rattle.cdb_grid.specs.Units.{degree, height_of, step, tiles_of, side_of, IsOnGlobe};
 ghost use Rattle.cdb_grid.specs.Tiles.{point_of, IsInGeocell, IsInTile};
 ghost use Rattle.cdb_grid.specs.declared.geocell.Geocell.{Geocell};
 ghost use Rattle.cdb_grid.specs.declared.tile.Tile.{Tile};
@@ -10,7 +10,6 @@ use crate::geocell::Geocell;
 use crate::level::Level;
 use crate::tile::Tile;
 use crate::units;
-use crate::zone::zone_of;
 
 /// The geocell that holds a point of the globe, or `None` exactly where the latitude isn't from -90
 /// to below 90 degrees or the longitude isn't from -180 to below 180 degrees
@@ -26,8 +25,8 @@ pub fn geocell_at(lat: Arc, lon: Arc) -> Option<Geocell>
     }
     let row = units::north_of(lat) / DEGREE;
     let column = units::east_of(lon) / DEGREE;
-    let width = width_of_row(row);
-    Some(geocell(row, column - column % width))
+    let width = units::width_of_row(row);
+    Some(units::geocell(row, column - column % width))
 }
 
 /// The one tile of a family and a level that holds a point of the globe, or `None` exactly where
@@ -54,8 +53,8 @@ pub fn tile_at(family: Family, level: Level, lat: Arc, lon: Arc) -> Option<Tile>
     })
 }
 
-// The number of the tile that holds a point so many arc units from the edge of a geocell, whose
-// width is in degrees.
+/// The number of the tile that holds a point so many arc units from the edge of a geocell, whose
+/// width is in degrees.
 fn tile_index(level: Level, width: u64, offset: u64) -> u32
     requires least { 1 ≤ width }
     requires most { width ≤ 12 }
@@ -65,29 +64,4 @@ fn tile_index(level: Level, width: u64, offset: u64) -> u32
     ensures high { let h = height_of level.number in offset < (result * side_of h + side_of h) * (width * step h) }
 {
     (offset / (width * units::extent(level))) as u32
-}
-
-// The width in degrees of the geocells of a row of degrees, from the south pole.
-fn width_of_row(row: u64) -> u64
-    requires { row < 180 }
-    ensures value { result ≡ width_at row }
-    ensures least { 1 ≤ result }
-    ensures most { result ≤ 12 }
-{
-    zone_of((row as i64 - 90) as i8).width as u64
-}
-
-// The geocell of a row and a column of degrees, from the south pole and from the meridian of -180
-// degrees.
-fn geocell(row: u64, column: u64) -> Geocell
-    requires row { row < 180 }
-    requires column { column < 360 }
-    requires on_grid { column % width_at row ≡ 0 }
-    ensures row { row_of result.lat ≡ row }
-    ensures column { column_of result.lon ≡ column }
-{
-    Geocell {
-        lat: (row as i64 - 90) as i8,
-        lon: (column as i64 - 180) as i16,
-    }
 }

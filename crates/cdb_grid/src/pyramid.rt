@@ -10,7 +10,8 @@ use crate::spot::Spot;
 use crate::tile::{ChildTiles, Tile};
 use crate::units;
 
-/// The tile of the next coarser level that holds a tile, or `None` exactly at level -10.
+/// The tile of the next coarser level that holds a tile, or `None` exactly at level -10
+/// (OGC CDB 1.2 Volume 1, levels of detail).
 pub fn parent(tile: &Tile) -> Option<Tile>
     ensures coarsest { IsNone result ↔ (tile.now.level.number ≡ negsuc 9) }
     ensures parent { IfSome result (IsParent tile.now) }
@@ -27,7 +28,8 @@ pub fn parent(tile: &Tile) -> Option<Tile>
 }
 
 /// The tiles of the next finer level that a tile splits into: one below level 0, four from 0 to 22
-/// in the order south-west, south-east, north-west, north-east, and none at 23.
+/// in the order south-west, south-east, north-west, north-east, and none at 23
+/// (OGC CDB 1.2 Volume 1, levels of detail).
 pub fn children(tile: &Tile) -> ChildTiles
     ensures none { tile.now.level.number ≡ pos 23 → result.items ≡ [] }
     ensures one { tile.now.level.number <ℤ pos 0 → HasOneChild tile.now result.items }
@@ -72,7 +74,7 @@ pub fn spot_of(child: &Tile) -> Spot
     }
 }
 
-// The only child of a tile below level 0.
+/// The only child of a tile below level 0.
 fn whole(tile: &Tile, level: Level) -> Tile
     requires level { tile.now.level.number +ℤ pos 1 ≡ level.number }
     requires below { tile.now.level.number <ℤ pos 0 }
@@ -91,7 +93,7 @@ fn whole(tile: &Tile, level: Level) -> Tile
     }
 }
 
-// The child in one half of a tile to the north and one to the east.
+/// The child in one half of a tile to the north and one to the east.
 fn quarter(tile: &Tile, level: Level, north: u32, east: u32) -> Tile
     requires level { tile.now.level.number +ℤ pos 1 ≡ level.number }
     requires from { pos 0 ≤ℤ tile.now.level.number }

@@ -1,5 +1,4 @@
 use super::*;
-use crate::arc::DEGREE;
 use std::cmp::Ordering;
 use std::process::Abort;
 
@@ -77,7 +76,7 @@ fn levels_and_fractions(rt: HostRuntime) {
         (1, 16_986_931_200, 1024),
         (23, 4_050, 1024),
     ] {
-        assert_eq!(rt; units::step(level(&rt, number)), step);
+        assert_eq!(rt; units::step_of(level(&rt, number)), step);
         assert_eq!(rt; side(level(&rt, number)), side_of_tile);
     }
     assert_eq!(rt; Level::new(-11), None);

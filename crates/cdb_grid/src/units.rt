@@ -1,4 +1,6 @@
-ghost use Rattle.std.specs.Prelude.{◌≡◌, ℤ, pos, negsuc, ◌≤ℤ◌, ◌<ℤ◌, ◌+◌, ◌-◌, ◌*◌, ◌<◌, ◌≤◌, ◌↔◌, IsTrue};
+//! Heights of levels and their steps, and places in arc units and whole degrees from the south pole
+//! and from the meridian of -180 degrees.
+ghost use Rattle.std.specs.Prelude.{◌≡◌, ℤ, pos, negsuc, ◌≤ℤ◌, ◌<ℤ◌, ◌+◌, ◌-◌, ◌*◌, ◌<◌, ◌≤◌, ◌%◌, ◌↔◌, IsTrue};
 ghost use Rattle.cdb_grid.specs.Units.{degree, height_of, step, side_of, width_at, row_of, column_of, from_pole, from_west, IsOnGlobe};
 
 use crate::arc::{Arc, DEGREE};
@@ -6,8 +8,9 @@ use crate::geocell::Geocell;
 use crate::level::Level;
 use crate::zone::zone_of;
 
-// The height of a level, 24 less its number.
-pub(crate) fn height(level: Level) -> u32
+/// The height of a level, 24 less its number: 1 at level 23, and 34 at level -10
+/// (OGC CDB 1.2 Volume 1, levels of detail).
+pub fn height(level: Level) -> u32
     ensures value { result ≡ height_of level.number }
     ensures least { 1 ≤ result }
     ensures most { result ≤ 34 }
@@ -15,14 +18,26 @@ pub(crate) fn height(level: Level) -> u32
     (24 - level.number) as u32
 }
 
-// The step of a level in latitude, in arc units.
-#[tactic(auto, using(crate::proofs::UnitLaws::shifted, crate::proofs::UnitLaws::power_least, crate::proofs::UnitLaws::power_most))]
-pub(crate) fn step(level: Level) -> u64
-    ensures value { result ≡ step (height_of level.number) }
-    ensures least { 2 ≤ result }
+/// The step of a height in latitude, in arc units: from the south edge of a cell to its north edge.
+/// It is twice the step of the height below, and one degree at height 34. The step in longitude is
+/// so many times as long as the geocell is wide in degrees (OGC CDB 1.2 Volume 1, levels of detail).
+#[tactic(auto, using(crate::proofs::UnitLaws::shifted, crate::proofs::UnitLaws::power_pos, crate::proofs::UnitLaws::power_most))]
+pub fn step(height: u32) -> u64
+    requires { height ≤ 34 }
+    ensures value { result ≡ step height }
+    ensures least { 1 ≤ result }
     ensures most { result ≤ degree }
 {
-    2025 * (1 << height(level))
+    2025 * (1 << height)
+}
+
+/// The step of a level in latitude, in arc units.
+pub(crate) fn step_of(level: Level) -> u64
+    ensures value { result ≡ step (height_of level.number) }
+    ensures least { 1 ≤ result }
+    ensures most { result ≤ degree }
+{
+    step(height(level))
 }
 
 /// The elements along one side of a tile of a level, 1 to 1024
@@ -36,16 +51,16 @@ pub fn side(level: Level) -> u32
     1 << (34 - height(level)).min(10)
 }
 
-// The arc units of a tile of a level from its south edge to its north edge.
+/// The arc units of a tile of a level from its south edge to its north edge.
 pub(crate) fn extent(level: Level) -> u64
     ensures value { result ≡ side_of (height_of level.number) * step (height_of level.number) }
     ensures least { 1 ≤ result }
     ensures most { result ≤ degree }
 {
-    side(level) as u64 * step(level)
+    side(level) as u64 * step_of(level)
 }
 
-// Whether a latitude and a longitude are of the globe.
+/// Whether a latitude and a longitude are of the globe.
 pub(crate) fn is_on_globe(lat: Arc, lon: Arc) -> bool
     ensures { IsTrue result ↔ IsOnGlobe lat.units lon.units }
 {
@@ -54,29 +69,27 @@ pub(crate) fn is_on_globe(lat: Arc, lon: Arc) -> bool
     (-north..north).contains(&lat.units) && (-east..east).contains(&lon.units)
 }
 
-// The arc units of a latitude from the south pole.
-pub(crate) fn north_of(lat: Arc) -> u64
-    requires south { negsuc (90 * degree - 1) ≤ℤ lat.units }
-    requires north { lat.units <ℤ pos (90 * degree) }
+/// The arc units from the south pole to a latitude, 0 at -90 degrees.
+pub fn north_of(lat: Arc) -> u64
+    requires { negsuc (90 * degree - 1) ≤ℤ lat.units }
     ensures value { result ≡ from_pole lat.units }
-    ensures most { result < 180 * degree }
+    ensures most { lat.units <ℤ pos (90 * degree) → result < 180 * degree }
 {
     (lat.units + 90 * DEGREE as i64) as u64
 }
 
-// The arc units of a longitude from the meridian of -180 degrees.
-pub(crate) fn east_of(lon: Arc) -> u64
-    requires west { negsuc (180 * degree - 1) ≤ℤ lon.units }
-    requires east { lon.units <ℤ pos (180 * degree) }
+/// The arc units from the meridian of -180 degrees eastward to a longitude, 0 at -180 degrees.
+pub fn east_of(lon: Arc) -> u64
+    requires { negsuc (180 * degree - 1) ≤ℤ lon.units }
     ensures value { result ≡ from_west lon.units }
-    ensures most { result < 360 * degree }
+    ensures most { lon.units <ℤ pos (180 * degree) → result < 360 * degree }
 {
     (lon.units + 180 * DEGREE as i64) as u64
 }
 
-// The latitude and the longitude of so many arc units from the south pole and from the meridian of
-// -180 degrees.
-pub(crate) fn arcs(north: u64, east: u64) -> (Arc, Arc)
+/// The latitude and the longitude of so many arc units from the south pole and from the meridian of
+/// -180 degrees.
+pub fn arcs(north: u64, east: u64) -> (Arc, Arc)
     requires north { north < 180 * degree }
     requires east { east < 360 * degree }
     ensures north { from_pole result.0.units ≡ north }
@@ -92,27 +105,54 @@ pub(crate) fn arcs(north: u64, east: u64) -> (Arc, Arc)
     (lat, lon)
 }
 
-// The whole degrees from the south pole to the south edge of a geocell.
-pub(crate) fn row(cell: Geocell) -> u64
+/// The row of a geocell: the whole degrees from the south pole to its south edge, 0 to 179.
+pub fn row(cell: Geocell) -> u64
     ensures value { result ≡ row_of cell.lat }
     ensures most { result < 180 }
 {
     (cell.lat as i64 + 90) as u64
 }
 
-// The whole degrees from the meridian of -180 degrees to the west edge of a geocell.
-pub(crate) fn column(cell: Geocell) -> u64
+/// The column of a geocell: the whole degrees from the meridian of -180 degrees to its west edge,
+/// 0 to 359.
+pub fn column(cell: Geocell) -> u64
     ensures value { result ≡ column_of cell.lon }
     ensures most { result < 360 }
 {
     (cell.lon as i64 + 180) as u64
 }
 
-// The width of a geocell in degrees.
-pub(crate) fn width(cell: Geocell) -> u64
+/// The width of a geocell in degrees, 1 to 12 (OGC CDB 1.2 Volume 1, latitude zones).
+pub fn width(cell: Geocell) -> u64
     ensures value { result ≡ width_at (row_of cell.lat) }
     ensures least { 1 ≤ result }
     ensures most { result ≤ 12 }
 {
     zone_of(cell.lat).width as u64
+}
+
+/// The width in degrees of the geocells of a row of degrees, counted from the south pole, 1 to 12
+/// (OGC CDB 1.2 Volume 1, latitude zones).
+pub fn width_of_row(row: u64) -> u64
+    requires { row < 180 }
+    ensures value { result ≡ width_at row }
+    ensures least { 1 ≤ result }
+    ensures most { result ≤ 12 }
+{
+    zone_of((row as i64 - 90) as i8).width as u64
+}
+
+/// The geocell of a row and a column of degrees, counted from the south pole and from the meridian
+/// of -180 degrees. Its column is a whole multiple of its row's width.
+pub fn geocell(row: u64, column: u64) -> Geocell
+    requires row { row < 180 }
+    requires column { column < 360 }
+    requires on_grid { column % width_at row ≡ 0 }
+    ensures row { row_of result.lat ≡ row }
+    ensures column { column_of result.lon ≡ column }
+{
+    Geocell {
+        lat: (row as i64 - 90) as i8,
+        lon: (column as i64 - 180) as i16,
+    }
 }

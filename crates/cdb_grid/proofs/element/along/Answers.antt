@@ -10,8 +10,8 @@ bound l tile index side s low ea es tb ib = rw (ea, es) (along_inside (height_of
 
 pub overflow_mul-result-2 : goal.overflow_mul-result-2
 overflow_mul-result-2 c =
-    let ends = bound _ _ _ _ _ c.args.level.coarsest c.side.ensures.value c.step.ensures.value c.requires.tile c.requires.index in
+    let ends = bound _ _ _ _ _ c.args.level.coarsest c.side.ensures.value c.step_of.ensures.value c.requires.tile c.requires.index in
     omega arith
 
 pub returns-clause-most : goal.returns-clause-most
-returns-clause-most c = bound _ _ _ _ _ c.args.level.coarsest c.side.ensures.value c.step.ensures.value c.requires.tile c.requires.index
+returns-clause-most c = bound _ _ _ _ _ c.args.level.coarsest c.side.ensures.value c.step_of.ensures.value c.requires.tile c.requires.index
