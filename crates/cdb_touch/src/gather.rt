@@ -7,11 +7,10 @@ ghost use Rattle.cdb_touch.specs.Reach.{IsOfFamily, IsOfHeight};
 ghost use Rattle.cdb_touch.specs.Touched.{Adds};
 
 use crate::axis::Run;
+use crate::heights::COARSEST;
 use crate::rectangle::{Rectangle, geocell_rows, reached_in_row};
 use crate::tiles::tile_at;
-use crate::units;
-use crate::units::COARSEST;
-use cdb_grid::{Family, Tile};
+use cdb_grid::{Family, Tile, units};
 use cdb_source::{Kind, SourceHead};
 use std::alloc::AllocError;
 

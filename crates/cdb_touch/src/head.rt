@@ -1,32 +1,15 @@
 //! The box of a source, and the rows and columns of tiles that hold its places.
-ghost use Rattle.std.specs.Prelude.{◌≡◌, ℕ, ◌↔◌, ◌+◌, ◌*◌, ◌/◌, ◌≤◌, ◌<◌, pos, negsuc, ◌≤ℤ◌};
-ghost use Rattle.cdb_grid.specs.Units.{degree, tiles_of, width_at, from_pole, from_west};
+ghost use Rattle.std.specs.Prelude.{◌≡◌, ℕ, ◌↔◌, ◌+◌, ◌*◌, ◌/◌, ◌≤◌, ◌<◌};
+ghost use Rattle.cdb_grid.specs.Units.{degree, tiles_of, width_at};
 ghost use Rattle.cdb_source.specs.Head.{size_of, span};
 ghost use Rattle.cdb_source.specs.Sample.{corner_of, box_height, box_width};
 ghost use Rattle.cdb_source.specs.Reached.{source_height};
 ghost use Rattle.cdb_touch.specs.Reach.{HasRow, HasColumn};
 
 use crate::axis::{Run, with_places};
-use crate::units;
-use crate::units::DEGREE;
-use cdb_grid::Arc;
+use crate::heights;
+use cdb_grid::{Arc, DEGREE, units};
 use cdb_source::{Kind, SourceHead};
-
-/// Arc units of a latitude from the south pole.
-fn north_of(lat: Arc) -> u64
-    requires { negsuc 3131031158783999 ≤ℤ lat.units }
-    ensures { result ≡ from_pole lat.units }
-{
-    (lat.units + 90 * DEGREE as i64) as u64
-}
-
-/// Arc units of a longitude from the meridian of -180 degrees.
-fn east_of(lon: Arc) -> u64
-    requires { negsuc 6262062317567999 ≤ℤ lon.units }
-    ensures { result ≡ from_west lon.units }
-{
-    (lon.units + 180 * DEGREE as i64) as u64
-}
 
 /// How far so many rows or columns reach from the first one.
 fn span(kind: Kind, count: u32, step: Arc) -> u64
@@ -50,12 +33,12 @@ pub(crate) fn rows(head: &SourceHead, height: u32) -> Run
     ensures within { result.end ≤ 180 * tiles_of height }
 {
     let step = units::step(units::height(head.level));
-    let south = north_of(head.lat);
+    let south = units::north_of(head.lat);
     let north = south + span(head.kind, head.rows, head.dlat);
     with_places(
         head.kind,
         step,
-        units::extent(height),
+        heights::extent(height),
         south,
         north,
         180 * DEGREE,
@@ -71,14 +54,14 @@ pub(crate) fn columns(head: &SourceHead, height: u32, row: u64) -> Run
     ensures order { result.first ≤ result.end }
     ensures within { result.end ≤ 360 / width_at row * tiles_of height }
 {
-    let width = units::width(row);
+    let width = units::width_of_row(row);
     let step = width * units::step(units::height(head.level));
-    let west = east_of(head.lon);
+    let west = units::east_of(head.lon);
     let east = west + span(head.kind, head.cols, head.dlon);
     with_places(
         head.kind,
         step,
-        width * units::extent(height),
+        width * heights::extent(height),
         west,
         east,
         360 * DEGREE,

@@ -4,6 +4,7 @@
 mod axis;
 mod gather;
 mod head;
+mod heights;
 mod loads;
 mod reach;
 mod rectangle;
@@ -11,8 +12,7 @@ mod rectangle;
 mod tests;
 mod tiles;
 mod touch;
-mod units;
 
 pub use loads::load;
-pub use reach::reaches;
+pub use reach::{kind_of, reaches};
 pub use touch::{TouchError, touched};

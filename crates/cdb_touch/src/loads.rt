@@ -6,9 +6,9 @@ ghost use Rattle.cdb_source.specs.Reached.{kind_of, source_height, IsReachCount,
 ghost use Rattle.cdb_touch.specs.Count.{HasCount};
 ghost use Rattle.cdb_touch.specs.Reach.{IsOfFamily, IsOfHeight, IsOfRow};
 
+use crate::heights::COARSEST;
 use crate::rectangle::{geocell_rows, reached_in_row};
-use crate::units;
-use crate::units::COARSEST;
+use cdb_grid::units;
 use cdb_source::{Kind, SourceHead};
 
 /// How many tiles of one family and a height a source reaches in a row of geocells.

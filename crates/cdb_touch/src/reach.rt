@@ -6,12 +6,12 @@ ghost use Rattle.cdb_touch.specs.Numbers.{tile_width, row_number, column_number}
 ghost use Rattle.cdb_touch.specs.Reach.{HasRow, HasColumn};
 
 use crate::head::{columns, rows};
-use crate::units;
-use cdb_grid::{Family, Tile};
+use crate::heights;
+use cdb_grid::{Family, Tile, units};
 use cdb_source::{Kind, SourceHead};
 
 /// The kind of sources from which a family of tiles takes its values.
-pub(crate) fn kind_of(family: Family) -> Kind
+pub fn kind_of(family: Family) -> Kind
     ensures { result ≡ kind_of family }
 {
     match family {
@@ -24,7 +24,7 @@ pub(crate) fn kind_of(family: Family) -> Kind
 fn row_number(tile: &Tile) -> u64
     ensures { result ≡ row_number tile.now }
 {
-    units::row(tile.cell) * units::tiles(units::height(tile.level)) + tile.up as u64
+    units::row(tile.cell) * heights::tiles(units::height(tile.level)) + tile.up as u64
 }
 
 /// The number of a tile's column among all columns of its height in its row of geocells, from the
@@ -32,8 +32,8 @@ fn row_number(tile: &Tile) -> u64
 fn column_number(tile: &Tile) -> u64
     ensures { result ≡ column_number tile.now }
 {
-    let width = units::width(units::row(tile.cell));
-    units::column(tile.cell) / width * units::tiles(units::height(tile.level)) + tile.right as u64
+    let width = units::width(tile.cell);
+    units::column(tile.cell) / width * heights::tiles(units::height(tile.level)) + tile.right as u64
 }
 
 /// Whether a tile's row holds a place of a source.

@@ -10,7 +10,7 @@ ghost use Rattle.cdb_touch.specs.Reach.{IsOfRow};
 
 use crate::axis::Run;
 use crate::head::{columns, rows};
-use crate::units;
+use crate::heights;
 use cdb_source::SourceHead;
 
 /// Tiles of one height in one row of geocells, by the numbers of their rows and columns.
@@ -31,7 +31,7 @@ pub(crate) fn geocell_rows(head: &SourceHead, height: u32) -> Run
     ensures within { result.end ≤ 180 }
 {
     let rows = rows(head, height);
-    let tiles = units::tiles(height);
+    let tiles = heights::tiles(height);
     Run {
         first: rows.first / tiles,
         end: rows.end.div_ceil(tiles),
@@ -50,7 +50,7 @@ pub(crate) fn reached_in_row(head: &SourceHead, height: u32, row: u64) -> Rectan
     ensures east { result.columns.end ≤ 360 / width_at row * tiles_of height }
 {
     let rows = rows(head, height);
-    let tiles = units::tiles(height);
+    let tiles = heights::tiles(height);
     let (south, north) = (row * tiles, row * tiles + tiles);
     Rectangle {
         rows: Run {

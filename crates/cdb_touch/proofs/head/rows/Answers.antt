@@ -22,8 +22,8 @@ returns-clause-each c n lt =
     c.north_of-south.result (corner_of c.args.head.now).north
     (c.north_of-south.result + c.span.result) ((corner_of c.args.head.now).north + box_height c.args.head.now)
     c.extent.result (side_of h * step h) n _
-    (c.step-step.ensures.value ∙ ap step c.height.ensures.value) c.north_of-south.ensures
-    (ap (λ m. m + c.span.result) c.north_of-south.ensures ∙ ap (λ m. (corner_of c.args.head.now).north + m) c.span.ensures)
+    (c.step-step.ensures.value ∙ ap step c.height.ensures.value) c.north_of-south.ensures.value
+    (ap (λ m. m + c.span.result) c.north_of-south.ensures.value ∙ ap (λ m. (corner_of c.args.head.now).north + m) c.span.ensures)
     c.extent.ensures.value
     (c.with_places.ensures.each n (part_inside n (180 * tiles_of h) c.extent.result (180 * degree) lt fill))
 

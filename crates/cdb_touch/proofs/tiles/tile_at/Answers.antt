@@ -13,17 +13,17 @@ geocell-requires-clause-column c =
     let w : ℕ = width_at (c.args.row / n) in
     let below : c.args.column < 360 / w * n = subst (λ m. c.args.column < 360 / width_at (c.args.row / m) * m) (sym en) c.requires.column in
     let q : c.args.column / n < 360 / w = div_below c.args.column n (360 / w) c.tiles-tiles.ensures.least below in
-    subst (λ m. c.args.column / n * m < 360) (sym c.width-width.ensures.value)
+    subst (λ m. c.args.column / n * m < 360) (sym c.width_of_row-width.ensures.value)
     (west_within w (c.args.column / n) (width-dvd (c.args.row / n)) (width-pos (c.args.row / n)) q)
 
 pub geocell-requires-clause-on_grid : goal.geocell-requires-clause-on_grid
 geocell-requires-clause-on_grid c =
     let n : ℕ = c.tiles-tiles.result in
-    ap (λ m. (c.args.column / n * m) % width_at (c.args.row / n)) c.width-width.ensures.value
+    ap (λ m. (c.args.column / n * m) % width_at (c.args.row / n)) c.width_of_row-width.ensures.value
     ∙ mul-mod_left (c.args.column / n) (width_at (c.args.row / n))
 
 pub returns : goal.returns
 returns c =
-    made_numbers c.args.family c.args.height c.args.row c.args.column c.tiles-tiles.result c.width-width.result _
-    c.tiles-tiles.ensures.value c.width-width.ensures.value c.width-width.ensures.least refl c.level.ensures
+    made_numbers c.args.family c.args.height c.args.row c.args.column c.tiles-tiles.result c.width_of_row-width.result _
+    c.tiles-tiles.ensures.value c.width_of_row-width.ensures.value c.width_of_row-width.ensures.least refl c.level.ensures
     c.geocell.ensures.row c.geocell.ensures.column refl refl
