@@ -5,8 +5,8 @@ ghost use Rattle.cdb_source.specs.Sample.{sample_at};
 ghost use Rattle.cdb_source.specs.Offers.{over};
 ghost use Rattle.cdb_source.specs.Values.{sampled, offer, elevation_of};
 
-use crate::units::{arcs, height};
 use cdb_cut::sample;
+use cdb_grid::units::{arcs, height};
 use cdb_source::{Kind, Source};
 
 /// What a source has at a place.

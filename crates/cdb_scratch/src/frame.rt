@@ -6,20 +6,11 @@ ghost use Rattle.cdb_grid.specs.Frames.{number_at, number_in};
 ghost use Rattle.cdb_source.specs.Posts.{coded};
 
 use crate::cell::value;
-use crate::units::{corner, height};
-use cdb_grid::{Family, Tile, side};
+use crate::places::corner;
+use cdb_grid::units::height;
+use cdb_grid::{Tile, side};
 use cdb_source::{Kind, Source};
-use cdb_touch::reaches;
-
-/// The kind of sources from which a family of tiles takes its values.
-fn kind_of(family: Family) -> Kind
-    ensures { result ≡ kind_of family }
-{
-    match family {
-        Family::Elev | Family::Low | Family::High => Kind::Elevation,
-        Family::Mat => Kind::Material,
-    }
-}
+use cdb_touch::{kind_of, reaches};
 
 /// The number by which a frame of a kind has a value, or none.
 fn coded(kind: Kind, value: Option<i16>) -> i16

@@ -6,9 +6,9 @@ mod elevation;
 mod four;
 mod frame;
 mod material;
+mod places;
 mod reach;
 #[cfg(test)]
 mod tests;
-mod units;
 
 pub use frame::build;

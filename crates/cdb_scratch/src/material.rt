@@ -7,7 +7,8 @@ ghost use Rattle.cdb_source.specs.declared.kind.Kind.TheVariants.{Material};
 ghost use Rattle.cdb_source.specs.Values.{sampled, own, newest_own};
 
 use crate::elevation::sample_at;
-use crate::units::{centre, height};
+use crate::places::centre;
+use cdb_grid::units::height;
 use cdb_source::{Kind, Source};
 
 /// What a source of material of exactly the level of a height has at a place.

@@ -8,8 +8,8 @@ ghost use Rattle.cdb_source.specs.Sample.{corner_of, box_height, box_width};
 ghost use Rattle.cdb_source.specs.Reached.{source_height};
 ghost use Rattle.cdb_scratch.specs.Cells.{HasMultiple, HasPlace, past_edge, inset_of, ReachesCell, CellReached};
 
-use crate::units;
-use cdb_grid::Arc;
+use crate::places::width;
+use cdb_grid::{Arc, units};
 use cdb_source::{Kind, Source, SourceHead};
 
 /// Whether a multiple of a step lies from `low` on and below `high`.
@@ -126,7 +126,7 @@ fn reaches_cell(kind: Kind, head: &SourceHead, height: u32, north: u64, east: u6
     if head.kind != kind || units::height(head.level) > height {
         return false;
     }
-    has_row(head, height, north) && has_column(head, height, units::width(north), east)
+    has_row(head, height, north) && has_column(head, height, width(north), east)
 }
 
 /// Whether one of the sources does.

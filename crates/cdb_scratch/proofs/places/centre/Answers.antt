@@ -2,7 +2,7 @@ use Rattle.std.proofs.Common.{◌≡◌, ◌+◌, ◌*◌, ◌<◌}
 use Rattle.cdb_grid.specs.Units.{degree}
 use Rattle.cdb_grid.specs.Grid.{Place, centre}
 use Rattle.cdb_scratch.proofs.PlaceLaws.{centre_at, centre_corner, same_within}
-use Rattle.cdb_scratch.proofs.units.centre.Goals as goal
+use Rattle.cdb_scratch.proofs.places.centre.Goals as goal
 
 pub returns : goal.returns
 returns c =
