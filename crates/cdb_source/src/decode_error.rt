@@ -6,7 +6,7 @@ use std::alloc::AllocError;
 /// Why the bytes of a source file gave no source.
 #[derive(Clone, Copy, Debug, PartialEq, Eq)]
 pub enum DecodeError {
-    /// Memory ran out.
+    /// Memory was refused.
     Memory,
     /// The bytes aren't those of a source, and the first part that isn't of the form begins at this
     /// byte: the first eight bytes at 0, the head at 8, posts that aren't whole at 52, a post of

@@ -16,7 +16,7 @@ use crate::kind::Kind;
 use crate::posts::Posts;
 use crate::row::is_post;
 use crate::source::Source;
-use cdb_grid::{Arc, Level};
+use cdb_grid::{Arc, DEGREE, Level};
 use std::alloc::Global;
 
 fn begins_right(bytes: &[u8]) -> bool
@@ -71,7 +71,7 @@ fn arc_at(bytes: &[u8; 52], at: usize) -> Option<Arc>
 }
 
 /// Arc units of 360 degrees.
-const FULL_CIRCLE: i64 = 12524124635136000;
+const FULL_CIRCLE: i64 = 360 * DEGREE as i64;
 
 fn head_of(bytes: &[u8; 52]) -> Option<SourceHead>
     ensures { MatchOption result ((head : heads.SourceHead) → HasHead bytes.now head → ⊥) (λ head. HasHead bytes.now head) }
@@ -190,7 +190,7 @@ fn source_of(alloc: Global, bytes: &[u8]) -> Result<Source, DecodeError>
 }
 
 /// The source that the bytes of a source file spell. `Bad` exactly where they spell none; its place
-/// is where the first part begins that isn't of the form.
+/// is where the first part begins that isn't of the form. `Memory` where memory was refused.
 pub fn decode(alloc: Global, bytes: &[u8]) -> Result<Source, DecodeError>
     ensures spelled { IfOk result (λ source. bytes.now ≡ source_text source) }
     ensures only { (source : sources.Source) → bytes.now ≡ source_text source → GivesSource source result }

@@ -49,8 +49,8 @@ impl SourceMaker {
         })
     }
 
-    /// Takes the next row to the south, from west to east. A number equal to `novalue` has no
-    /// value. `Range` exactly where another number is outside -32768 to 32767 for elevation, or
+    /// Takes the next row to the south, one number a column from west to east, while rows are due. A
+    /// number equal to `novalue` has no value. `Range` exactly where another number is outside -32768 to 32767 for elevation, or
     /// outside 0 to 255 for material; the maker is then unchanged.
     pub fn push_row(&mut self, row: &[i32], novalue: i32) -> Result<(), Range>
         requires due { 0 < self.old.due }
@@ -77,7 +77,8 @@ impl SourceMaker {
         Ok(())
     }
 
-    /// The source. Its head is the maker's, and its last row that came is the south row.
+    /// The source, once all rows came. Its head is the maker's, and its last row that came is the
+    /// south row.
     pub fn finish(self) -> Source
         requires { self.due ≡ 0 }
         ensures head { result.head ≡ self.head }

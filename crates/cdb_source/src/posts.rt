@@ -15,6 +15,7 @@ impl Model for Posts {
 }
 
 impl Posts {
+    /// The posts, south row first, each row from west to east.
     pub fn as_slice(&self) -> &[i16]
         ensures { result.now ≡ self.now }
     {

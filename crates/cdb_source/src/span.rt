@@ -4,15 +4,15 @@ ghost use Rattle.cdb_grid.specs.Units.{degree, from_pole, from_west};
 ghost use Rattle.cdb_source.specs.Head.{size_of, span, IsStep, IsRaster, IsLatitude, IsLongitude};
 
 use crate::kind::Kind;
-use cdb_grid::Arc;
+use cdb_grid::{Arc, DEGREE};
 
 /// Arc units from the equator to a pole, and from the meridian of 0 degrees to that of 180.
-const TO_POLE: i64 = 3131031158784000;
+const TO_POLE: i64 = 90 * DEGREE as i64;
 
-const TO_WEST: i64 = 6262062317568000;
+const TO_WEST: i64 = 180 * DEGREE as i64;
 
 /// Arc units of 12 degrees.
-const GREATEST_STEP: u64 = 417470821171200;
+const GREATEST_STEP: u64 = 12 * DEGREE;
 
 fn step_size(step: Arc) -> u64
     ensures { result ≡ size_of step.units }
