@@ -4,7 +4,8 @@ ghost use Rattle.cdb_source.specs.Head.{span};
 ghost use Rattle.cdb_source.specs.Posts.{IsPost};
 ghost use Rattle.cdb_source.specs.Sample.{post_at, value_of, is_in_box, is_before, corner_of, row_step, column_step, box_height, box_width};
 
-use crate::corner::{step_size, units_east, units_north};
+use crate::corner::step_size;
+use cdb_grid::units::{east_of, north_of};
 use cdb_source::{Kind, Source, SourceHead};
 
 /// How far so many rows or columns reach from the first one. Within a box it stays on the globe.
@@ -31,8 +32,8 @@ fn is_not_past(kind: Kind, x: u64, edge: u64) -> bool
 pub(crate) fn is_inside(head: &SourceHead, north: u64, east: u64) -> bool
     ensures { result ≡ is_in_box head.now (record { north = north; east = east }) }
 {
-    let south = units_north(head.lat);
-    let west = units_east(head.lon);
+    let south = north_of(head.lat);
+    let west = east_of(head.lon);
     let up = south + reach(head.kind, head.rows, step_size(head.dlat));
     let right = west + reach(head.kind, head.cols, step_size(head.dlon));
     south <= north

@@ -2,9 +2,10 @@ ghost use Rattle.std.specs.Prelude.{◌≡◌, ◌≤◌};
 ghost use Rattle.cdb_source.specs.Sample.{sample_at, sample_of};
 
 use crate::average::mean_of_four;
-use crate::corner::{TO_POLE, TO_WEST, step_size, units_east, units_north};
+use crate::corner::{TO_POLE, TO_WEST, step_size};
 use crate::raster::{is_inside, post};
 use cdb_grid::Arc;
+use cdb_grid::units::{east_of, north_of};
 use cdb_source::{Kind, Source};
 
 #[tactic(auto, unfolding(cdb_source::specs::Sample::sample_at))]
@@ -14,8 +15,8 @@ fn sample_within(source: &Source, north: u64, east: u64) -> Option<i16>
     if !is_inside(&source.head, north, east) {
         return None;
     }
-    let up = north - units_north(source.head.lat);
-    let right = east - units_east(source.head.lon);
+    let up = north - north_of(source.head.lat);
+    let right = east - east_of(source.head.lon);
     match source.head.kind {
         Kind::Elevation => mean_of_four(source, up, right),
         Kind::Material => post(
@@ -39,5 +40,5 @@ pub fn sample(source: &Source, lat: Arc, lon: Arc) -> Option<i16>
     if lat.units < -TO_POLE || lon.units < -TO_WEST {
         return None;
     }
-    sample_within(source, units_north(lat), units_east(lon))
+    sample_within(source, north_of(lat), east_of(lon))
 }
