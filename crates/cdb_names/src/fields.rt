@@ -1,10 +1,10 @@
 //! The fields of names and paths, each read from the front of a text.
 ghost use Rattle.std.specs.Prelude.{◌≡◌, ◌+◌, ◌*◌, ◌<◌, ◌≤◌, ◌^◌, ℤ, pos, negsuc, ◌≤ℤ◌, neg_ℤ, length, option_map, IfSome};
-ghost use Rattle.cdb_grid.specs.Units.{width_at, row_of, column_of};
+ghost use Rattle.cdb_grid.specs.Units.{column_of};
 ghost use Rattle.cdb_names.specs.Fields.{after, lat_of, lat_at, lon_of, is_on_grid, lon_at, family_of, family_at, coarse_at, fine_at, level_at, across, numbered_at};
 
 use crate::digits::{read_number, read_three, read_two};
-use cdb_grid::{Family, Geocell, Level};
+use cdb_grid::{Family, Geocell, Level, zone_of};
 
 /// What follows a prefix, where the text begins with it.
 pub fn read_after<'a>(prefix: &[u8], text: &'a [u8]) -> Option<&'a [u8]>
@@ -74,40 +74,12 @@ fn longitude(letter: u8, degrees: u16) -> Option<i16>
     }
 }
 
-fn row(lat: i8) -> u8
-    requires { negsuc 89 ≤ℤ lat }
-    ensures { result ≡ row_of lat }
-{
-    (i16::from(lat) + 90) as u8
-}
-
 fn column(lon: i16) -> u16
     requires west { negsuc 179 ≤ℤ lon }
     requires east { lon ≤ℤ pos 179 }
     ensures { result ≡ column_of lon }
 {
     (lon + 180) as u16
-}
-
-/// The width in degrees of the geocells whose south edge is so many degrees from the south pole.
-#[tactic(auto, unfolding(cdb_grid::specs::Units::width_at))]
-fn width(row: u8) -> u16
-    ensures width { result ≡ width_at row }
-    ensures some { 0 < result }
-{
-    match row {
-        0 => 12,
-        1..10 => 6,
-        10..15 => 4,
-        15..20 => 3,
-        20..40 => 2,
-        40..140 => 1,
-        140..160 => 2,
-        160..165 => 3,
-        165..170 => 4,
-        170..179 => 6,
-        _ => 12,
-    }
 }
 
 /// The geocell with this south edge, by the longitude of its west edge in degrees.
@@ -122,7 +94,7 @@ pub fn read_longitude(lat: i8, text: &[u8]) -> Option<(Geocell, &[u8])>
     let (letter, rest) = text.split_first()?;
     let (degrees, rest) = read_three(rest)?;
     let lon = longitude(*letter, degrees)?;
-    if column(lon) % width(row(lat)) != 0 {
+    if column(lon) % u16::from(zone_of(lat).width) != 0 {
         return None;
     }
     Some((Geocell { lat, lon }, rest))

@@ -3,7 +3,7 @@ ghost use Rattle.cdb_names.specs.Reading.{has_lat, has_lon, has_dataset, has_lev
 
 use cdb_grid::{Family, Level};
 
-/// The folder of a family's dataset.
+/// The folder of a family's dataset (OGC CDB 1.2 Volume 1, tile naming).
 #[derive(Clone, Copy, Debug, PartialEq, Eq)]
 pub enum DatasetFolder {
     Elevation,
@@ -11,7 +11,8 @@ pub enum DatasetFolder {
     RmTexture,
 }
 
-/// The folder of a level: one for all levels below 0, and one for each level from 0 on.
+/// The folder of a level: one for all levels below 0, and one for each level from 0 on (OGC CDB 1.2
+/// Volume 1, tile naming).
 #[derive(Clone, Copy, Debug, PartialEq, Eq)]
 pub enum LevelFolder {
     BelowZero,
@@ -60,6 +61,7 @@ pub fn has_latitude(folder: Option<Folder>, lat: i8) -> bool
     }
 }
 
+/// Whether a tile of this longitude may stand in the folder. Without a folder, it may.
 pub fn has_longitude(folder: Option<Folder>, lon: i16) -> bool
     ensures { result ≡ has_lon folder lon }
 {
@@ -69,6 +71,7 @@ pub fn has_longitude(folder: Option<Folder>, lon: i16) -> bool
     }
 }
 
+/// Whether a tile of this family may stand in the folder. Without a folder, it may.
 pub fn has_family(folder: Option<Folder>, family: Family) -> bool
     ensures { result ≡ has_dataset folder family }
 {
@@ -78,7 +81,8 @@ pub fn has_family(folder: Option<Folder>, family: Family) -> bool
     }
 }
 
-pub fn has_level_of(folder: Option<Folder>, level: Level) -> bool
+/// Whether a tile of this level may stand in the folder. Without a folder, it may.
+pub fn has_level(folder: Option<Folder>, level: Level) -> bool
     ensures { result ≡ has_level folder level.number }
 {
     match folder {
@@ -87,6 +91,7 @@ pub fn has_level_of(folder: Option<Folder>, level: Level) -> bool
     }
 }
 
+/// Whether a tile of this row may stand in the folder. Without a folder, it may.
 pub fn has_row(folder: Option<Folder>, up: u32) -> bool
     ensures { result ≡ has_up folder up }
 {

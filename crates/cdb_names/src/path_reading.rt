@@ -180,8 +180,9 @@ fn read_whole_path(text: &[u8]) -> Result<(u32, Tile), NameError>
     Ok((version, tile))
 }
 
-/// The version, from 1 to 4,096, and the tile whose path the text is. Else the error says where
-/// the first wrong field begins.
+/// The version, from 1 to 4,096, and the tile whose path the text is, the folders of the tile as in
+/// OGC CDB 1.2 Volume 1, tile naming. Else the error's `place` is the byte of
+/// the text, from 0, at which its first wrong field begins.
 pub fn read_path(text: &[u8]) -> Result<(u32, Tile), NameError>
     ensures version { IfOk result (λ p. (1 ≤ p.0) × (p.0 ≤ 4096)) }
     ensures found { IfOk result (λ p. text.now ≡ path p.0 p.1) }

@@ -50,7 +50,8 @@ fn push_folder(text: &mut ArrayString<128>, version: u32, tile: &Tile)
     push_number(text, tile.up);
 }
 
-/// The folder of a version's tile, from the version's folder on.
+/// The folder of a version's tile, from the version's folder on (OGC CDB 1.2 Volume 1, folder
+/// hierarchy of tiled datasets).
 pub fn folder_of(version: u32, tile: &Tile) -> ArrayString<128>
     requires from_one { 1 ≤ version }
     requires to_last { version ≤ 4096 }
@@ -61,7 +62,8 @@ pub fn folder_of(version: u32, tile: &Tile) -> ArrayString<128>
     text
 }
 
-/// The path of a version's tile, from the version's folder on.
+/// The path of a version's tile, from the version's folder on (OGC CDB 1.2 Volume 1, folder
+/// hierarchy of tiled datasets).
 pub fn write_path(version: u32, tile: &Tile) -> ArrayString<128>
     requires from_one { 1 ≤ version }
     requires to_last { version ≤ 4096 }

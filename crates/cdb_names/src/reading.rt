@@ -8,7 +8,7 @@ ghost use Rattle.cdb_names.specs.Reading.{field, wrong_at, lat_in, lon_in, famil
 use crate::fields::{
     read_family, read_latitude, read_level, read_longitude, read_numbered, tiles_across,
 };
-use crate::folder::{Folder, has_family, has_latitude, has_level_of, has_longitude, has_row};
+use crate::folder::{Folder, has_family, has_latitude, has_level, has_longitude, has_row};
 use cdb_grid::{Family, Geocell, Level, Tile};
 use cdb_model::NameError;
 
@@ -83,7 +83,7 @@ fn level_in_folder(folder: Option<Folder>, text: &[u8]) -> Option<(Level, &[u8])
     ensures shorter { IfSome result (λ p. length p.1.now ≤ length text.now) }
 {
     let (level, rest) = read_level(text)?;
-    if !has_level_of(folder, level) {
+    if !has_level(folder, level) {
         return None;
     }
     Some((level, rest))
@@ -137,7 +137,8 @@ pub fn read_name_in(folder: Option<Folder>, text: &[u8], end: &[u8]) -> Result<T
     })
 }
 
-/// The tile whose file name the text is. Else the error says where the first wrong field begins.
+/// The tile whose file name the text is (OGC CDB 1.2 Volume 1, tile naming). Else the error's
+/// `place` is the byte of the text, from 0, at which its first wrong field begins.
 pub fn read_name(text: &[u8]) -> Result<Tile, NameError>
     ensures found { IfOk result (λ t. text.now ≡ name t) }
     ensures only { (t : Tile) → text.now ≡ name t → result ≡ Ok t }

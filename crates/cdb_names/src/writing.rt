@@ -6,6 +6,7 @@ ghost use Rattle.cdb_model.specs.Names.{two, three, four, eight, lat_text, lon_t
 
 use arrayvec::ArrayString;
 use cdb_grid::{Family, Geocell, Level, Tile};
+use itoa::Buffer;
 
 fn push_digit<const CAP: usize>(text: &mut ArrayString<CAP>, digit: u8)
     requires small { digit < 10 }
@@ -58,21 +59,6 @@ pub fn push_eight<const CAP: usize>(text: &mut ArrayString<CAP>, n: u32)
     push_four(text, n % 10000);
 }
 
-fn decimal_text(n: u32) -> ArrayString<10>
-    ensures bytes { result.bytes ≡ decimal n }
-    ensures few { n < 10 ^ 9 → array_string_len result ≤ 9 }
-    ensures fewer { n < 10 ^ 7 → array_string_len result ≤ 7 }
-{
-    if n < 10 {
-        let mut text = ArrayString::new();
-        push_digit(&mut text, n as u8);
-        return text;
-    }
-    let mut text = decimal_text(n / 10);
-    push_digit(&mut text, (n % 10) as u8);
-    text
-}
-
 /// A number without leading zeros, at the end of the text.
 pub fn push_number<const CAP: usize>(text: &mut ArrayString<CAP>, n: u32)
     requires small { n < 10 ^ 7 }
@@ -80,7 +66,7 @@ pub fn push_number<const CAP: usize>(text: &mut ArrayString<CAP>, n: u32)
     ensures bytes { text.new.bytes ≡ text.old.bytes ++ decimal n }
     ensures len { array_string_len text.new ≤ array_string_len text.old + 7 }
 {
-    text.push_str(decimal_text(n).as_str());
+    text.push_str(Buffer::new().format(n));
 }
 
 /// The latitude field of a geocell, at the end of the text.
@@ -152,7 +138,7 @@ pub fn push_level_folder<const CAP: usize>(text: &mut ArrayString<CAP>, level: L
     }
 }
 
-/// The file name of a tile.
+/// The file name of a tile (OGC CDB 1.2 Volume 1, tile naming).
 pub fn write_name(tile: &Tile) -> ArrayString<64>
     ensures { result.bytes ≡ name tile.now }
 {
