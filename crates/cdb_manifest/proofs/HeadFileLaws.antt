@@ -1,43 +1,22 @@
 -- The text of the file that names the newest version.
-use Rattle.std.proofs.Common.{◌≡◌, ℕ, ◌+◌, ◌-◌, ◌^◌, ◌<◌, ◌≤◌, true, List, [], ◌∷◌, length, take, IsUtf8, rules, ap, ◌∙◌, arith}
-use Rattle.std.specs.Char.{is_ascii_digit}
+use Rattle.std.proofs.Common.{◌≡◌, ℕ, ◌≤◌, List, [], ◌∷◌, ◌++◌, Result, Ok, Err, Some, None, IsUtf8, ap, rules, arith}
 use Rattle.std.specs.Fmt.{decimal}
-use Rattle.std.specs.List.{list_all}
-use Rattle.std.specs.Str.Parse.{digits_value}
-use Rattle.std.proofs.lemmas.Fmt.{IsAscii-from_digits, digits_decimal, digits_value-decimal, decimal_nonempty, length-decimal-le}
-use Rattle.std.proofs.lemmas.List.{length-append, take_at}
-use Rattle.std.proofs.lemmas.Str.{IsUtf8-from_ascii}
-use Rattle.std.proofs.lemmas.Str.Parse.{IsDigitsTest, IsNumeralModel, numerals_by_value, digits_value_short}
+use Rattle.std.specs.Result.{MatchResult, result_ok}
+use Rattle.std.specs.Str.Parse.{ParsesUnsigned}
+use Rattle.std.proofs.lemmas.Fmt.{IsAscii-decimal, parse-decimal}
+use Rattle.std.proofs.lemmas.List.{append_cancel_right}
+use Rattle.std.proofs.lemmas.Str.{IsUtf8-append, IsUtf8-from_ascii}
 use Rattle.cdb_model.specs.Records.{head_file_text}
 
-tells : IsDigitsTest (λ ds. list_all is_ascii_digit ds ≡ true)
-tells = search rules
+-- the bytes of a version are text
+pub is_text : (n : ℕ) → n ≤ 4096 → IsUtf8 (head_file_text n)
+is_text n most = IsUtf8-append (decimal n) (10 ∷ []) (IsUtf8-from_ascii (decimal n) (IsAscii-decimal n (omega arith))) (IsUtf8-from_ascii (10 ∷ []) (search rules))
 
-pub own : IsNumeralModel (λ ds. list_all is_ascii_digit ds ≡ true) (digits_value 10)
-own = numerals_by_value (λ ds. list_all is_ascii_digit ds ≡ true) tells
+-- bytes that are refused as text are none
+pub no_text : {S E : Type 0} (P : S → Type 0) (V : E → Type 0) (U : Type 0) (r : Result S E) → MatchResult r P (λ e. (U → ⊥) × V e) → None ≡ result_ok r → U → ⊥
+no_text P V U (Ok s) h e u = absurd cc
+no_text P V U (Err x) h e u = h.0 u
 
-pub utf8 : (ds : List ℕ) → list_all is_ascii_digit ds ≡ true → IsUtf8 ds
-utf8 ds h = IsUtf8-from_ascii ds (IsAscii-from_digits ds (own.to ds h))
-
-pub short_value : (ds : List ℕ) → list_all is_ascii_digit ds ≡ true → length ds ≤ 4 → digits_value 10 ds < 10 ^ 4
-short_value ds h le = digits_value_short own ds 4 h le
-
--- what the text of a version is
-pub record IsText (bytes : List ℕ) (n : ℕ) : Type 0 where
-  pub least : 2 ≤ length bytes
-  pub most : length bytes ≤ 5
-  pub front : take (length bytes - 1) bytes ≡ decimal n
-
-pub text_facts : (bytes : List ℕ) (n : ℕ) → n ≤ 4096 → bytes ≡ head_file_text n → IsText bytes n
-text_facts bytes n most e =
-    let some : 0 < length (decimal n) = decimal_nonempty n (omega arith) in
-    let few : length (decimal n) ≤ 4 = length-decimal-le 4 n (omega arith) (omega arith) (omega arith) in
-    let len : length bytes ≡ length (decimal n) + 1 = ap length e ∙ length-append (decimal n) (10 ∷ []) in
-    let k : length (decimal n) ≡ length bytes - 1 = omega arith in
-    record { least = omega arith; most = omega arith; front = ap (take (length bytes - 1)) e ∙ take_at (decimal n) (10 ∷ []) (length bytes - 1) k }
-
-pub all_digits_of : (bytes : List ℕ) (n : ℕ) → n ≤ 4096 → IsText bytes n → list_all is_ascii_digit (take (length bytes - 1) bytes) ≡ true
-all_digits_of bytes n most t = ap (λ ds. list_all is_ascii_digit ds) t.front ∙ digits_decimal own n (omega arith)
-
-pub value_of : (bytes : List ℕ) (n : ℕ) → n ≤ 4096 → IsText bytes n → digits_value 10 (take (length bytes - 1) bytes) ≡ n
-value_of bytes n most t = ap (digits_value 10) t.front ∙ digits_value-decimal own n (omega arith)
+-- the number before the line feed
+pub parsed : {E : Type 0} (front : List ℕ) (n : ℕ) (r : Result ℕ E) → n ≤ 4096 → front ++ 10 ∷ [] ≡ head_file_text n → ParsesUnsigned 32 10 front r → result_ok r ≡ Some n
+parsed front n r most e p = ap result_ok (parse-decimal 32 n front r (omega arith) (omega arith) (append_cancel_right front (decimal n) (10 ∷ []) e) p)

@@ -141,9 +141,9 @@ fn record_of(alloc: Global, bytes: &[u8]) -> Result<Record, RecordError>
     })
 }
 
-/// The record that the bytes spell. `Bad` exactly where they spell none; its place is where the
-/// first field begins that isn't of the form. Whether the tiles are those that the sources touch is
-/// not looked at.
+/// The record that the bytes spell. `Bad` exactly where they spell none; its place is the byte, from
+/// 0, at which the first field begins that isn't of the form. `Memory` where memory was refused.
+/// Whether the tiles are those that the sources touch is not looked at.
 pub fn decode(alloc: Global, bytes: &[u8]) -> Result<Record, RecordError>
     ensures spelled { IfOk result (λ item. bytes.now ≡ text_of item) }
     ensures only { (item : records.Record) → bytes.now ≡ text_of item → GivesRecord item result }

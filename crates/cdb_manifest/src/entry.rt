@@ -74,15 +74,9 @@ pub(crate) fn tile_of(entry: &[u8; 16]) -> Option<Tile>
     if entry[3] != 0 || entry[6] != 0 || entry[7] != 0 {
         return None;
     }
-    let Some(family) = family_of(entry[0]) else {
-        return None;
-    };
-    let Some(level) = Level::new(i32::from(entry[1].cast_signed())) else {
-        return None;
-    };
-    let Some(cell) = geocell_of(entry[2].cast_signed(), longitude_in(entry)) else {
-        return None;
-    };
+    let family = family_of(entry[0])?;
+    let level = Level::new(i32::from(entry[1].cast_signed()))?;
+    let cell = geocell_of(entry[2].cast_signed(), longitude_in(entry))?;
     let up = number_in(entry, 8);
     let right = number_in(entry, 12);
     let across = tiles_across(level);
@@ -105,11 +99,7 @@ pub(crate) fn tile_of(entry: &[u8; 16]) -> Option<Tile>
 pub(crate) fn entry_at(bytes: &[u8]) -> Option<(Tile, &[u8])>
     ensures { MatchOption result ((tile : tiles.Tile) (after : List ℕ) → bytes.now ≡ entry_text tile ++ after → ⊥) (λ p. bytes.now ≡ entry_text p.0 ++ p.1.now) }
 {
-    let Some(entry) = bytes.first_chunk::<16>() else {
-        return None;
-    };
-    let Some(tile) = tile_of(entry) else {
-        return None;
-    };
+    let entry = bytes.first_chunk::<16>()?;
+    let tile = tile_of(entry)?;
     Some((tile, bytes.split_at(16).1))
 }

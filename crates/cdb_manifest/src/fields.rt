@@ -23,9 +23,7 @@ pub(crate) fn number_at(bytes: &[u8], least: u32, most: u32) -> Option<(u32, &[u
     ensures { MatchOption result ((text after : List ℕ) → IsNumber least most text → bytes.now ≡ text ++ after → ⊥)
         (λ p. (least ≤ p.0) × (p.0 ≤ most) × (bytes.now ≡ source_texts.count_bytes p.0 ++ p.1.now)) }
 {
-    let Some(four) = bytes.first_chunk::<4>() else {
-        return None;
-    };
+    let four = bytes.first_chunk::<4>()?;
     let number = u32::from_be_bytes(*four);
     if number < least || number > most {
         return None;
@@ -54,8 +52,6 @@ pub(crate) fn head_at(bytes: &[u8]) -> Option<(SourceHead, &[u8])>
         return None;
     }
     let (text, rest) = bytes.split_at(44);
-    let Some(head) = decode_head(&front_of(text)) else {
-        return None;
-    };
+    let head = decode_head(&front_of(text))?;
     Some((head, rest))
 }

@@ -20,6 +20,7 @@ impl Model for Heads {
 }
 
 impl Heads {
+    /// The heads, in the order of their numbers.
     pub fn as_slice(&self) -> &[SourceHead]
         ensures { result.now ≡ self.now }
     {
@@ -42,7 +43,7 @@ impl From<Vec<SourceHead>> for Heads {
     }
 }
 
-/// The tiles of a publication, in the stated order, each once.
+/// The tiles of a publication, in the stated order (that of `Tile`'s `Ord`), each once.
 #[derive(Debug, Drop)]
 pub struct Tiles {
     items: Vec<Tile>,
@@ -55,6 +56,7 @@ impl Model for Tiles {
 }
 
 impl Tiles {
+    /// The tiles, in the stated order, each once.
     pub fn as_slice(&self) -> &[Tile]
         ensures { result.now ≡ self.now }
     {

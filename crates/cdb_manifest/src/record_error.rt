@@ -6,11 +6,11 @@ use std::alloc::{AllocError, AllocFailed};
 /// Why the bytes of a record gave no record.
 #[derive(Clone, Copy, Debug, PartialEq, Eq)]
 pub enum RecordError {
-    /// Memory ran out.
+    /// Memory was refused.
     Memory,
     /// The bytes aren't those of a record, and the first field that isn't whole, isn't of its form,
-    /// or is a tile that doesn't come after the one before, begins at this byte. Bytes after the
-    /// last tile are bad where they begin.
+    /// or is a tile that doesn't come after the one before, begins at this byte, from 0. Bytes after
+    /// the last tile are bad where they begin.
     Bad { place: u32 },
 }
 
