@@ -1,8 +1,10 @@
+//! An entry of a directory, read from its place, and the values of an entry.
 ghost use Rattle.std.specs.Prelude.{◌≡◌, ◌+◌, ◌≤◌, length, SomeIff};
 ghost use Rattle.cdb_tiff_base.specs.Entries.{entry_at, size_of, value_of, values};
 
 use crate::number::{read_u16, read_u32};
 use crate::order::Order;
+use crate::tag::{BYTE, LONG, SHORT};
 
 /// An entry of a directory: 12 bytes from the byte `at` of the file on (TIFF 6.0 section 2, IFD entry).
 #[derive(Clone, Copy, Debug, PartialEq, Eq)]
@@ -70,9 +72,9 @@ fn value_size(kind: u16) -> usize
     ensures small { result ≤ 4 }
 {
     match kind {
-        1 => 1,
-        3 => 2,
-        4 => 4,
+        BYTE => 1,
+        SHORT => 2,
+        LONG => 4,
         _ => 0,
     }
 }

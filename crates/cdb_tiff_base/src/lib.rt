@@ -5,11 +5,13 @@
 mod entry;
 mod number;
 mod order;
+pub mod tag;
 mod tiff_cause;
 mod tiff_error;
 mod written_tile;
 
 pub use entry::{Entry, read_entry, value};
+pub use number::{read_u16, read_u32};
 pub use order::Order;
 pub use tiff_cause::TiffCause;
 pub use tiff_error::TiffError;
