@@ -1,3 +1,4 @@
+//! The first directory of a file: its entries by index and by tag, and the values of its tags.
 ghost use Rattle.std.specs.Prelude.{◌≡◌, ◌<◌};
 ghost use Rattle.cdb_tiff_base.specs.Directory.{entry, tag_entry, value_or};
 ghost use Rattle.cdb_tiff_read.specs.Found.{IsDirectory};

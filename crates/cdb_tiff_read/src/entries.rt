@@ -1,3 +1,4 @@
+//! The checks of the entries by themselves: their order, their values, and that no tag is one of tiles.
 ghost use Rattle.std.specs.Prelude.{◌≡◌, find};
 ghost use Rattle.cdb_tiff_base.specs.Causes.{at_entry, bad_kind, bad_order, is_tile_tag, is_unsound, is_used, tiled, unordered};
 ghost use Rattle.cdb_tiff_base.specs.Directory.{entries};
@@ -5,7 +6,7 @@ ghost use Rattle.cdb_tiff_base.specs.Entries.{is_sound};
 ghost use Rattle.cdb_tiff_read.specs.Found.{IsDirectory, pass};
 
 use crate::directory::{Directory, entry_of};
-use crate::tag::{
+use cdb_tiff_base::tag::{
     BITS_PER_SAMPLE, COMPRESSION, FILL_ORDER, IMAGE_LENGTH, IMAGE_WIDTH, ROWS_PER_STRIP,
     SAMPLE_FORMAT, SAMPLES_PER_PIXEL, STRIP_BYTE_COUNTS, STRIP_OFFSETS, TILE_BYTE_COUNTS,
     TILE_WIDTH,
@@ -27,7 +28,7 @@ const USED_TAGS: [u16; 10] = [
 ];
 
 /// Fails with the cause at this entry, if there is one.
-fn refuse_entry(cause: TiffCause, entry: Option<Entry>) -> Result<(), TiffError>
+pub fn refuse_entry(cause: TiffCause, entry: Option<Entry>) -> Result<(), TiffError>
     ensures { result ≡ pass (at_entry cause entry) }
 {
     match entry {

@@ -1,3 +1,4 @@
+//! The checks of what the tags say of the image, and the image that they give.
 ghost use Rattle.std.specs.Prelude.{◌≡◌, ◌==◌, ◌*◌, ◌^◌, ◌≤◌, ◌<◌, not, IsSome, IsTrue, OnOk, is_none};
 ghost use Rattle.cdb_tiff_base.specs.Causes.{absent, applies, at_tag, bad_bits, bad_size, compressed, floating, is_readable, is_size, several_samples};
 ghost use Rattle.cdb_tiff_base.specs.Directory.{directory, tag_entry};
@@ -6,9 +7,10 @@ ghost use Rattle.cdb_tiff_read.specs.Opened.{HasFields};
 ghost use Rattle.cdb_tiff_read.specs.Found.{IsDirectory, pass};
 
 use crate::directory::{Directory, find, first_value};
+use crate::entries::refuse_entry;
 use crate::header::refuse_if;
 use crate::image::Image;
-use crate::tag::{
+use cdb_tiff_base::tag::{
     BITS_PER_SAMPLE, COMPRESSION, FILL_ORDER, IMAGE_LENGTH, IMAGE_WIDTH, ROWS_PER_STRIP,
     SAMPLE_FORMAT, SAMPLES_PER_PIXEL, STRIP_BYTE_COUNTS, STRIP_OFFSETS,
 };
@@ -51,13 +53,7 @@ pub fn refuse_tag_if(
     if !test {
         return Ok(());
     }
-    match find(bytes, d, tag) {
-        Some(entry) => Err(TiffError {
-            cause,
-            at: u64::from(entry.at),
-        }),
-        None => Ok(()),
-    }
+    refuse_entry(cause, find(bytes, d, tag))
 }
 
 /// The strips aren't compressed.

@@ -1,11 +1,11 @@
+//! The checks of the header of a file, and the first directory, to which the header points.
 ghost use Rattle.std.specs.Prelude.{◌≡◌, ◌+◌, ◌^◌, ◌<◌, ◌≤◌, length, None, Some, IfErr, IfOk, OnOk};
 ghost use Rattle.cdb_tiff_base.specs.Causes.{applies, bad_directory, big_tiff, is_big_tiff, is_tiff, not_tiff};
 ghost use Rattle.cdb_tiff_base.specs.Directory.{directory, entry_count, order_of};
 ghost use Rattle.cdb_tiff_read.specs.Found.{IsDirectory, pass};
 
 use crate::directory::Directory;
-use byteorder::{BigEndian, ByteOrder, LittleEndian};
-use cdb_tiff_base::{Order, TiffCause, TiffError};
+use cdb_tiff_base::{Order, TiffCause, TiffError, read_u16, read_u32};
 
 /// Fails with the cause and its place where the test holds.
 pub fn refuse_if(test: bool, cause: TiffCause, at: u32) -> Result<(), TiffError>
@@ -69,10 +69,7 @@ fn directory_place(bytes: &[u8], order: Order) -> u32
     requires order { order ≡ order_of bytes.now }
     ensures { result ≡ directory bytes.now }
 {
-    match order {
-        Order::Little => LittleEndian::read_u32(&bytes[4..]),
-        Order::Big => BigEndian::read_u32(&bytes[4..]),
-    }
+    read_u32(&bytes[4..], order)
 }
 
 /// The number of entries of the directory at this place.
@@ -83,10 +80,7 @@ fn read_entry_count(bytes: &[u8], order: Order, at: u32) -> u16
     requires within { at + 2 ≤ length bytes.now }
     ensures { result ≡ entry_count bytes.now }
 {
-    match order {
-        Order::Little => LittleEndian::read_u16(&bytes[at as usize..]),
-        Order::Big => BigEndian::read_u16(&bytes[at as usize..]),
-    }
+    read_u16(&bytes[at as usize..], order)
 }
 
 /// The first directory, where it is whole in the file.

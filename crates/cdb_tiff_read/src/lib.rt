@@ -10,7 +10,6 @@ mod image;
 mod reader;
 mod samples;
 mod strips;
-mod tag;
 
 pub use cdb_tiff_base::{Entry, Order, TiffCause, TiffError};
 pub use image::Image;

@@ -12,8 +12,9 @@ use crate::strips::{check_short, check_strips};
 use cdb_tiff_base::TiffError;
 
 /// Opens the image of a TIFF file, or fails with the first cause for which the file is refused and the
-/// byte that the cause speaks of. The tags 256 to 259, 266, 273, 277 to 279 and 339 are read, and 322 to
-/// 325 (tiles) looked for; all other entries are passed over (TIFF 6.0 sections 2, 3 and 8).
+/// byte that the cause speaks of. The file has fewer than `2^32` bytes. The tags 256 to 259, 266, 273, 277
+/// to 279 and 339 are read, and 322 to 325 (tiles) looked for; all other entries are passed over (TIFF 6.0
+/// sections 2, 3 and 8).
 #[tactic(auto, unfolding(cdb_tiff_base::specs::Causes::cause_of))]
 pub fn open(bytes: &[u8]) -> Result<Image, TiffError>
     requires { length bytes.now < 2 ^ 32 }

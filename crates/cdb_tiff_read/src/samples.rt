@@ -1,11 +1,11 @@
+//! The samples of an image, row by row.
 ghost use Rattle.std.specs.Prelude.{◌≡◌, ◌+◌, ◌*◌, ◌/◌, ◌<◌, ◌≤◌, EachIndex, Some, length, slice_get};
 ghost use Rattle.cdb_tiff_base.specs.Pixels.{pixel, row_place, sample};
 ghost use Rattle.cdb_tiff_read.specs.Opened.{IsOpened};
 
 use crate::image::Image;
 use crate::strips::offset_of;
-use byteorder::{BigEndian, ByteOrder, LittleEndian};
-use cdb_tiff_base::Order;
+use cdb_tiff_base::{Order, read_u16};
 
 /// The sample of 16 bits at the head of the bytes.
 #[tactic(auto, unfolding(cdb_tiff_base::specs::Pixels::sample))]
@@ -13,11 +13,11 @@ fn sample_16(bytes: &[u8], order: Order, signed: bool) -> i32
     requires { 2 ≤ length bytes.now }
     ensures { result ≡ sample order 16 signed bytes.now }
 {
-    match (order, signed) {
-        (Order::Little, false) => i32::from(LittleEndian::read_u16(bytes)),
-        (Order::Little, true) => i32::from(LittleEndian::read_i16(bytes)),
-        (Order::Big, false) => i32::from(BigEndian::read_u16(bytes)),
-        (Order::Big, true) => i32::from(BigEndian::read_i16(bytes)),
+    let number = read_u16(bytes, order);
+    if signed {
+        i32::from(number.cast_signed())
+    } else {
+        i32::from(number)
     }
 }
 
@@ -47,8 +47,9 @@ fn place_of_row(image: &Image, bytes: &[u8], r: u32) -> usize
     offset + rows_before * image.width as usize * usize::from(image.bits / 8)
 }
 
-/// Writes the samples of row `r` of an image, from the top, into `to`, from the left. The samples are
-/// whole numbers from -32768 to 65535.
+/// Writes the samples of row `r` of an image, counted from the north, from 0, into `to`, from west to
+/// east. `to` has as many places as the image has columns. The samples are whole numbers from -32768 to
+/// 65535.
 #[tactic(auto, unfolding(cdb_tiff_base::specs::Pixels::pixel))]
 pub fn row(image: &Image, bytes: &[u8], r: u32, to: &mut [i32])
     requires opened { IsOpened bytes.now image.now }

@@ -1,3 +1,4 @@
+//! The strips of an image: their places, the bytes that they need, and the checks of both.
 ghost use Rattle.std.specs.Prelude.{◌≡◌, ◌+◌, ◌-◌, ◌*◌, ◌/◌, ◌<◌, ◌≤◌, ◌^◌, ◌||◌, ◌==◌, not, min, length, nat_lt, Some, IfSome, IsSome, OnOk};
 ghost use Rattle.cdb_tiff_base.specs.Causes.{bad_strips, lacks_bytes, short};
 ghost use Rattle.cdb_tiff_base.specs.Directory.{count_of, tag_entry};
@@ -11,7 +12,7 @@ ghost use Rattle.cdb_tiff_read.specs.Opened.{HasFields};
 use crate::directory::{Directory, find};
 use crate::fields::refuse_tag_if;
 use crate::image::Image;
-use crate::tag::{STRIP_BYTE_COUNTS, STRIP_OFFSETS};
+use cdb_tiff_base::tag::{STRIP_BYTE_COUNTS, STRIP_OFFSETS};
 use cdb_tiff_base::{Entry, TiffCause, TiffError, value};
 
 /// The number of strips.
