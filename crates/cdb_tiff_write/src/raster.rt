@@ -5,8 +5,8 @@ ghost use Rattle.cdb_model.specs.TileFile.{row_bytes, small_row_bytes};
 
 use byteorder::{ByteOrder, LittleEndian};
 
-/// Writes one row of posts from west to east, each in two bytes, the lower byte first. `to` has twice
-/// as many bytes as the row has posts.
+/// Writes one row of posts from west to east, each in two bytes, the lower byte first (TIFF 6.0 section
+/// 8). `to` has twice as many bytes as the row has posts.
 #[tactic(auto, unfolding(cdb_model::specs::TileFile::row_bytes))]
 pub fn put_row_16(posts: &[i16], to: &mut [u8])
     requires { length to.old ≡ 2 * length posts.now }
@@ -24,8 +24,8 @@ fn octet(post: i16) -> u8
     post as u8
 }
 
-/// Writes one row of posts of materials, from 0 to 255, from west to east, each in one byte. `to` has as
-/// many bytes as the row has posts.
+/// Writes one row of posts of materials, from 0 to 255, from west to east, each in one byte (TIFF 6.0
+/// section 8). `to` has as many bytes as the row has posts.
 #[tactic(auto, unfolding(cdb_model::specs::TileFile::small_row_bytes))]
 pub fn put_row_8(posts: &[i16], to: &mut [u8])
     requires least { All (λ post. pos 0 ≤ℤ post) posts.now }

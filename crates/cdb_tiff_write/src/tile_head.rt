@@ -5,47 +5,19 @@ ghost use Rattle.arrayvec.specs.ArrayVec.{array_vec_len};
 ghost use Rattle.cdb_model.specs.TileFile.{short_bytes, long_bytes, short, long, rational, entry, head_bytes};
 
 use arrayvec::ArrayVec;
+use cdb_tiff_base::tag::{
+    BITS_PER_SAMPLE, COMPRESSION, IMAGE_LENGTH, IMAGE_WIDTH, LONG, PHOTOMETRIC_INTERPRETATION,
+    RATIONAL, RESOLUTION_UNIT, ROWS_PER_STRIP, SAMPLE_FORMAT, SAMPLES_PER_PIXEL, SHORT,
+    STRIP_BYTE_COUNTS, STRIP_OFFSETS, X_RESOLUTION, Y_RESOLUTION,
+};
 
 const HEAD_BYTES: usize = 186;
 
-// The tags of the entries, in their order.
-const IMAGE_WIDTH: u16 = 256;
-
-const IMAGE_LENGTH: u16 = 257;
-
-const BITS_PER_SAMPLE: u16 = 258;
-
-const COMPRESSION: u16 = 259;
-
-const PHOTOMETRIC_INTERPRETATION: u16 = 262;
-
-const STRIP_OFFSETS: u16 = 273;
-
-const SAMPLES_PER_PIXEL: u16 = 277;
-
-const ROWS_PER_STRIP: u16 = 278;
-
-const STRIP_BYTE_COUNTS: u16 = 279;
-
-const X_RESOLUTION: u16 = 282;
-
-const Y_RESOLUTION: u16 = 283;
-
-const RESOLUTION_UNIT: u16 = 296;
-
-const SAMPLE_FORMAT: u16 = 339;
-
-// The types of their values.
-const SHORT: u16 = 3;
-
-const LONG: u16 = 4;
-
-const RATIONAL: u16 = 5;
-
 type Head = ArrayVec<u8, HEAD_BYTES>;
 
-/// The first 186 bytes of the file of a tile. `side` is the number of its elements along one side, at
-/// most 1,024, and `bits` is 16 for signed elements and 8 for elements without a sign.
+/// The first 186 bytes of the file of a tile (TIFF 6.0 sections 2 and 8). `side` is the number of its
+/// elements along one side, at most 1,024, and `bits` is 16 for signed elements and 8 for elements without
+/// a sign.
 #[tactic(auto, unfolding(cdb_model::specs::TileFile::head_bytes))]
 pub fn head(side: u32, bits: u8) -> [u8; 186]
     requires side { side ≤ 1024 }
