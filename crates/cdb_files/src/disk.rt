@@ -26,7 +26,7 @@ pub trait Disk {
     /// How many calls of `read_at` it has had.
     ghost read_count: { Self → ℕ };
 
-    /// How many of its calls have failed. The count stays at its last value.
+    /// How many of its calls have failed; the count stays at `2^64 - 1`.
     fn faults(&self) -> u64
         ensures { result ≡ fault_count self.now };
 
@@ -38,7 +38,7 @@ pub trait Disk {
         ensures cause { HasCause (fault_count self.old) (fault_count self.new) result }
         ensures reads { read_count self.new ≡ read_count self.old };
 
-    /// Fills `into` with the bytes of the file from `at` on.
+    /// Fills `into` with the bytes of the file from `at` on. Where it fails, `into` may have any bytes.
     fn read_at(&mut self, path: &Path, at: u64, into: &mut [u8]) -> Result<(), Failed>
         requires { tells → Reaches ((state self.old).present path.now.bytes) at (length into.old) }
         ensures bytes { tells → OnOk result (HasAt ((state self.old).present path.now.bytes) at into.new) }
@@ -57,7 +57,8 @@ pub trait Disk {
         ensures cause { HasCause (fault_count self.old) (fault_count self.new) result }
         ensures reads { read_count self.new ≡ read_count self.old };
 
-    /// Makes the folder and those above it, and is Ok too where they are there.
+    /// Makes the folder and those above it, and is Ok too where they are there. Where it fails, some
+    /// of them may have been made.
     fn make_dir(&mut self, folder: &Path) -> Result<(), Failed>
         ensures ok { tells → OnOk result (state self.new ≡ after_make_dir folder.now.bytes (state self.old)) }
         ensures err { tells → OnErr result (FailsMakeDir (state self.old) (after_make_dir folder.now.bytes (state self.old)) (state self.new)) }
@@ -67,7 +68,8 @@ pub trait Disk {
         ensures cause { HasCause (fault_count self.old) (fault_count self.new) result }
         ensures reads { read_count self.new ≡ read_count self.old };
 
-    /// Makes an empty file, also where there was one.
+    /// Makes an empty file, also where there was one. Where it fails, the file is as before or as
+    /// after it.
     fn create(&mut self, path: &Path) -> Result<(), Failed>
         requires { tells → IsMade (state self.old) (folder_above path.now.bytes) }
         ensures ok { tells → OnOk result (state self.new ≡ after_create path.now.bytes (state self.old)) }
@@ -78,7 +80,8 @@ pub trait Disk {
         ensures cause { HasCause (fault_count self.old) (fault_count self.new) result }
         ensures reads { read_count self.new ≡ read_count self.old };
 
-    /// Adds `piece` at the end of the file.
+    /// Adds `piece` at the end of the file. Where it fails, the first bytes of the piece, or none, may
+    /// have been added.
     fn append(&mut self, path: &Path, piece: &[u8]) -> Result<(), Failed>
         requires { tells → IsThere ((state self.old).present path.now.bytes) }
         ensures ok { tells → OnOk result (state self.new ≡ after_append path.now.bytes piece.now (state self.old)) }
@@ -89,7 +92,7 @@ pub trait Disk {
         ensures cause { HasCause (fault_count self.old) (fault_count self.new) result }
         ensures reads { read_count self.new ≡ read_count self.old };
 
-    /// Makes sure of the bytes of the file.
+    /// Makes sure of the bytes of the file. Where it fails, nothing has changed.
     fn sync_file(&mut self, path: &Path) -> Result<(), Failed>
         requires { tells → IsThere ((state self.old).present path.now.bytes) }
         ensures ok { tells → OnOk result (state self.new ≡ after_sync_file path.now.bytes (state self.old)) }
@@ -100,7 +103,7 @@ pub trait Disk {
         ensures cause { HasCause (fault_count self.old) (fault_count self.new) result }
         ensures reads { read_count self.new ≡ read_count self.old };
 
-    /// Makes sure of which files lie directly in the folder.
+    /// Makes sure of which files lie directly in the folder. Where it fails, nothing has changed.
     fn sync_dir(&mut self, folder: &Path) -> Result<(), Failed>
         ensures ok { tells → OnOk result (state self.new ≡ after_sync_dir folder.now.bytes (state self.old)) }
         ensures err { tells → OnErr result (state self.new ≡ state self.old) }
@@ -110,7 +113,8 @@ pub trait Disk {
         ensures cause { HasCause (fault_count self.old) (fault_count self.new) result }
         ensures reads { read_count self.new ≡ read_count self.old };
 
-    /// Gives the file another name in its folder, over what had that name.
+    /// Gives the file another name in its folder, over what had that name. Where it fails, both names
+    /// are as before or both as after it.
     fn rename(&mut self, from: &Path, to: &Path) -> Result<(), Failed>
         requires beside { folder_above from.now.bytes ≡ folder_above to.now.bytes }
         requires differ { from.now.bytes ≢ to.now.bytes }
@@ -124,7 +128,8 @@ pub trait Disk {
         ensures cause { HasCause (fault_count self.old) (fault_count self.new) result }
         ensures reads { read_count self.new ≡ read_count self.old };
 
-    /// Takes the file away, and is Ok too where there is none.
+    /// Takes the file away, and is Ok too where there is none. Where it fails, the file is as before
+    /// or as after it.
     fn remove(&mut self, path: &Path) -> Result<(), Failed>
         ensures ok { tells → OnOk result (state self.new ≡ after_remove path.now.bytes (state self.old)) }
         ensures err { tells → OnErr result (Fails (state self.old) (after_remove path.now.bytes (state self.old)) (state self.new)) }

@@ -21,7 +21,7 @@ pub trait Shelf {
         ensures files { files self.new ≡ files self.old }
         ensures cause { HasCause (fault_count self.old) (fault_count self.new) result };
 
-    /// Fills `into` with the bytes of the file from `at` on.
+    /// Fills `into` with the bytes of the file from `at` on. Where it fails, `into` may have any bytes.
     fn read_at(&mut self, path: &Path, at: u64, into: &mut [u8]) -> Result<(), Failed>
         requires { tells → Reaches (files self.old path.now.bytes) at (length into.old) }
         ensures bytes { tells → OnOk result (HasAt (files self.old path.now.bytes) at into.new) }
