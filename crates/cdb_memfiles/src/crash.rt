@@ -14,7 +14,7 @@ use cdb_files::Path;
 use std::alloc::{AllocError, Global};
 use std::collections::BTreeMap;
 
-// What a crash may leave after one call more.
+/// What a crash may leave after one call more.
 fn follow(table: &mut Standings, alloc: Global, call: Call) -> Result<(), AllocError>
     ensures { OnOk result ((s : State) → Shows (shown table.old) s → Shows (shown table.new) (apply call s)) }
 {
@@ -53,7 +53,7 @@ pub fn made_folders(alloc: Global, calls: &[Call]) -> Result<Record, AllocError>
     Ok(folders)
 }
 
-// One call more, which is noted where it made a folder.
+/// One call more, which is noted where it made a folder.
 fn note_folder(folders: &mut Record, call: &Call) -> Result<(), AllocError>
     ensures { OnOk result ((s : State) → replay folders.old.calls.items ≡ only_made s → replay folders.new.calls.items ≡ only_made (apply call.now s)) }
 {
@@ -63,7 +63,7 @@ fn note_folder(folders: &mut Record, call: &Call) -> Result<(), AllocError>
     Ok(())
 }
 
-// One path as it is picked.
+/// One path as it is picked.
 fn restore_one(after: &mut Record, entry: (Path, Standing), pick: Pick) -> Result<(), AllocError>
     ensures present { OnOk result ((replay after.new.calls.items).present
         ≡ restored_map entry.0.bytes (picked_shown pick (shown_by entry.1)) (replay after.old.calls.items).present) }

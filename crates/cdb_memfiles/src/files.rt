@@ -10,8 +10,8 @@ use std::collections::BTreeMap;
 /// Files by path.
 pub type ByPath = BTreeMap<Path, Vec<u8>>;
 
-#[tactic(auto, unfolding(crate::specs::Files::content))]
 /// The length of the file, or `None` where there is no file.
+#[tactic(auto, unfolding(crate::specs::Files::content))]
 pub fn size_in(files: &ByPath, path: &Path) -> Option<u64>
     ensures { result ≡ size_of (content files.now path.now.bytes) }
 {
@@ -21,8 +21,8 @@ pub fn size_in(files: &ByPath, path: &Path) -> Option<u64>
     }
 }
 
-#[tactic(auto, unfolding(crate::specs::Files::content))]
 /// Fills `into` with the bytes of the file from `at` on.
+#[tactic(auto, unfolding(crate::specs::Files::content))]
 pub fn read_in(files: &ByPath, path: &Path, at: u64, into: &mut [u8])
     requires { Reaches (content files.now path.now.bytes) at (length into.old) }
     ensures { HasAt (content files.now path.now.bytes) at into.new }
@@ -94,7 +94,7 @@ pub fn move_file(
     Ok(())
 }
 
-// What the paths of files under the folder begin with, or `None` where no path is so long.
+/// What the paths of files under the folder begin with, or `None` where no path is so long.
 fn prefix_of(folder: &Path) -> Option<Path>
     ensures { MatchOption result (129 ≤ length (folder_prefix folder.now.bytes)) (λ prefix. prefix.bytes ≡ folder_prefix folder.now.bytes) }
 {

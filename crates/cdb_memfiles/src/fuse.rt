@@ -46,7 +46,7 @@ impl<D: Disk> Fuse<D> {
     }
 }
 
-// Takes one of the calls that are left, or fails where there is none.
+/// Takes one of the calls that are left, or fails where there is none.
 fn spend(left: &mut u64, faults: &mut u64) -> Result<(), Failed>
     ensures blown { IsErr result ↔ (left.old ≡ 0) }
     ensures left { left.new ≡ left.old - 1 }
@@ -62,7 +62,7 @@ fn spend(left: &mut u64, faults: &mut u64) -> Result<(), Failed>
     Ok(())
 }
 
-// One fault more.
+/// One fault more.
 fn fault(faults: &mut u64)
     ensures more { faults.new ≡ one_more faults.old }
     ensures later { faults.old ≤ faults.new }

@@ -24,7 +24,7 @@ pub struct MemDisk {
     refused: u64,
 }
 
-// A growth was refused, and the call fails.
+/// A growth was refused, and the call fails.
 fn refuse(schedule: &mut Schedule, refused: &mut u64) -> Failed
     ensures number { schedule.new.number ≡ schedule.old.number }
     ensures fails { schedule.new.fails ≡ schedule.old.fails }
@@ -89,14 +89,14 @@ impl MemDisk {
         })
     }
 
-    /// How many calls of `read_at` it has had. The count stays at its last value.
+    /// How many calls of `read_at` it has had. The count stays at `2^64 - 1`.
     pub fn reads(&self) -> u64
         ensures { result ≡ reads_of self.now }
     {
         self.reads
     }
 
-    /// How many growths of its own were refused. The count stays at its last value.
+    /// How many growths of its own were refused. The count stays at `2^64 - 1`.
     pub fn refused(&self) -> u64
         ensures { result ≡ refused_of self.now }
     {

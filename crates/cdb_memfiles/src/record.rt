@@ -22,7 +22,7 @@ pub struct Record {
     pub ghost short: { IsShort files } by { Prim.hlevel props },
 }
 
-// Adds a call where there is room for one.
+/// Adds a call where there is room for one.
 fn push(calls: &mut Vec<Call>, call: Call)
     requires { vec_len calls.old < vec_capacity calls.old }
     ensures { calls.new.items ≡ calls.old.items ++ call ∷ [] }

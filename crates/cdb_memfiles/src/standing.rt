@@ -26,7 +26,7 @@ pub struct Standing {
 impl Standing {
     ghost use Rattle.cdb_memfiles.specs.Standing.{shown_by, kept_shown, picked_shown, synced_first};
 
-    // With other bytes, or none, and the first possibility that it had.
+    /// With other bytes, or none, and the first possibility that it had.
     pub fn replaced(self, now: Option<Vec<u8>>) -> Standing
         ensures { shown_by result ≡ (bytes_of now, (shown_by self).1) }
     {
@@ -43,7 +43,7 @@ impl Standing {
         Standing { now, first }
     }
 
-    // After a sync of the file.
+    /// After a sync of the file.
     pub fn sync(&mut self)
         ensures { shown_by self.new ≡ ((shown_by self.old).0, synced_first (shown_by self.old).1) }
     {
@@ -52,7 +52,7 @@ impl Standing {
         }
     }
 
-    // After a sync of the folder.
+    /// After a sync of the folder.
     pub fn keep(&mut self)
         ensures { shown_by self.new ≡ kept_shown (shown_by self.old).0 (shown_by self.old).1 }
     {
@@ -76,7 +76,7 @@ impl Standing {
     }
 }
 
-// The first half of the bytes.
+/// The first half of the bytes.
 fn halved(file: Option<Vec<u8>>) -> Option<Vec<u8>>
     ensures { bytes_of result ≡ half (bytes_of file) }
 {

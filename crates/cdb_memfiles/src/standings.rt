@@ -12,7 +12,7 @@ use std::collections::BTreeMap;
 /// Each path that a call has named.
 pub type Standings = BTreeMap<Path, Standing>;
 
-// What stands at the path, which is taken out of the table.
+/// What stands at the path, which is taken out of the table.
 fn take(table: &mut Standings, path: &Path) -> Standing
     ensures value { shown_by result ≡ shown table.old path.now.bytes }
     ensures rest { shown table.new ≡ put (shown table.old) path.now.bytes nothing }
@@ -47,7 +47,7 @@ pub fn create(table: &mut Standings, alloc: Global, path: &Path) -> Result<(), A
     Ok(())
 }
 
-// The bytes with a piece at their end.
+/// The bytes with a piece at their end.
 fn longer(file: Option<Vec<u8>>, piece: &[u8]) -> Result<Option<Vec<u8>>, AllocError>
     ensures { IfOk result (λ longer. bytes_of longer ≡ with_piece piece.now (bytes_of file)) }
 {
@@ -113,7 +113,7 @@ pub fn restore(table: &mut Standings, path: &Path, bytes: Vec<u8>) -> Result<(),
     Ok(())
 }
 
-// The path, where its folder is synced.
+/// The path, where its folder is synced.
 fn keep_in(folder: &Path, path: &Path, standing: &mut Standing)
     ensures { shown_by standing.new ≡ kept_in folder.now.bytes path.now.bytes (shown_by standing.old) }
 {
