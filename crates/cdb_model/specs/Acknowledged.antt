@@ -32,12 +32,8 @@ whole_answers (answer ∷ answers) written =
 abbrev pub acknowledged : State → List Answer → Text → List (List Source)
 acknowledged s answers written = take (completed (whole_answers answers written)) (begun_by s)
 
--- a shelf of which nothing is known; a run over any other shelf is one over this one
-abbrev pub HasAnything : Text → Content → Type 0
-HasAnything path content = Unit {0}
-
--- whatever was written of a run, what it acknowledges is the first of the complete publications
-abbrev pub AcknowledgedStand : Type 0
-AcknowledgedStand =
-    (commands : List Command) (answers : List Answer) (state : State) (written : Text) → Run HasAnything start commands answers state
+-- whatever was written of a run over a shelf, what it acknowledges is the first of the complete publications
+abbrev pub AcknowledgedStand : (Text → Content → Type 0) → Type 0
+AcknowledgedStand Has =
+    (commands : List Command) (answers : List Answer) (state : State) (written : Text) → Run Has start commands answers state
     → (rest : List (List Source)) × (state.list ≡ acknowledged state answers written ++ rest)

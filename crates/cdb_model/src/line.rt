@@ -25,8 +25,9 @@ pub enum Line {
     Blank,
 }
 
-/// The words of a source whose posts stand in the line. `lat` and `lon` are its south-west corner,
-/// and the posts come row by row, the north row first, each from west to east.
+/// The words of a source whose posts stand in the line. `lat` and `lon` are its south-west corner and
+/// `dlat` and `dlon` its steps, in degrees. The posts, up to 64, come row by row, the north row first,
+/// each from west to east; for a source there are `rows` times `cols` of them.
 #[derive(Debug, Drop)]
 pub struct InlineWords {
     pub kind: Kind,
@@ -40,8 +41,9 @@ pub struct InlineWords {
     pub posts: ArrayVec<i32, 64>,
 }
 
-/// The words of a source whose posts a file holds. `lat` and `lon` are its south-west corner, a
-/// post that is `novalue` stands for none, and `path` is the file's path in the shelf.
+/// The words of a source whose posts a file holds. `lat` and `lon` are its south-west corner and
+/// `dlat` and `dlon` its steps, in degrees. A post that is `novalue` stands for none, and `path` is the
+/// file's path in the shelf.
 #[derive(Debug, Drop)]
 pub struct LoadWords {
     pub kind: Kind,
