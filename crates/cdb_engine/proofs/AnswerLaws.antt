@@ -235,9 +235,6 @@ one_sight : (s : State) (id : ℕ) (xs ys : List Source) → Sees s id xs → Se
 one_sight s id xs ys x y =
     x.sources_are ∙ ap (λ (session : Session). sources_up_to session.version s.list) (same_Some x.session y.session (sym x.is_open ∙ y.is_open)) ∙ sym y.sources_are
 
-not_closed : (s : State) (id : ℕ) (xs : List Source) → Sees s id xs → session_of id s.sessions ≡ None → ⊥
-not_closed s id xs x none = none-some x.session (sym none ∙ x.is_open)
-
 not_missing : (s : State) (id : ℕ) (t : Tile) (bytes : List ℕ) → Served s id t bytes → IsMissing s id t → ⊥
 not_missing s id t bytes x y = y.unreached (subst (λ sources. Reached (heads_of sources) t) (one_sight s id x.sources y.sources x.seen y.seen) x.reached)
 

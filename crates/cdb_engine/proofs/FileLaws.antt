@@ -16,10 +16,6 @@ not_for_shelf Tells file = record { content = file; told = λ t. refl; unread = 
 pub not_for_memory : (Tells : Type 0) (file : Content) → ReadsNot Tells file Memory
 not_for_memory Tells file = record { content = file; told = λ t. refl; unread = tt }
 
-is_absent : (file : Content) → None ≡ size_of file → None ≡ file
-is_absent None e = refl
-is_absent (Some bytes) e = cc
-
 zeros : (size : ℕ) → 67108864 < size → IsBigOf size (Some (replicate size 0))
 zeros size big = record { bytes = replicate size 0; there = refl; size_is = length-replicate size 0; big = big }
 

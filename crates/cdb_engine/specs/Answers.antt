@@ -5,6 +5,8 @@ use Rattle.cdb_grid.specs.declared.tile.Tile.{Tile}
 use Rattle.cdb_source.specs.Reached.{Reached, IsLoad, IsTouched}
 use Rattle.cdb_source.specs.declared.head.SourceHead.{SourceHead}
 use Rattle.cdb_source.specs.declared.source.Source.{Source}
+use Rattle.cdb_touch.specs.declared.touch.TouchError.{TouchError}
+use Rattle.cdb_touch.specs.declared.touch.TouchError.TheVariants as touch
 use Rattle.cdb_model.specs.Machine as machine
 use Rattle.cdb_model.specs.Machine.{Answer, heads_of}
 use Rattle.cdb_model.specs.TileFile.{tile_bytes}
@@ -23,8 +25,6 @@ use Rattle.cdb_engine.specs.declared.reply.Begun.{Begun}
 use Rattle.cdb_engine.specs.declared.reply.Opened.{Opened}
 use Rattle.cdb_engine.specs.declared.reply.Reply.{Reply}
 use Rattle.cdb_engine.specs.declared.reply.Reply.TheVariants.{Missing, Bytes}
-use Rattle.cdb_engine.specs.declared.touched_files.CountError.{CountError}
-use Rattle.cdb_engine.specs.declared.touched_files.CountError.TheVariants as count
 
 -- why no source can be submitted now
 abbrev pub ready_answer : ReadyError → Answer
@@ -80,10 +80,10 @@ pub record HasFiles (heads : List SourceHead) (files : ℕ) : Type 0 where
   pub files_are : files ≡ length tiles
 
 -- how many files sources have, or why not
-abbrev pub Counts : List SourceHead → Result ℕ CountError → Type 0
+abbrev pub Counts : List SourceHead → Result ℕ TouchError → Type 0
 Counts heads (Ok files) = HasFiles heads files
-Counts heads (Err (count.Large load)) = IsLoad heads load × (16384 < load)
-Counts heads (Err count.Memory) = Unit {0}
+Counts heads (Err (touch.Large load)) = IsLoad heads load × (16384 < load)
+Counts heads (Err touch.Memory) = Unit {0}
 
 -- some source reaches the tile, and these are the bytes of its file, so many
 pub record IsFileOf (sources : List Source) (t : Tile) (count : ℕ) (bytes : List ℕ) : Type 0 where

@@ -19,12 +19,13 @@ use crate::sessions::{remove_session, session_of};
 use crate::source_file::loaded;
 use crate::sources::Sources;
 use crate::tile_file::reply_with;
-use crate::touched_files::{CountError, count_files};
+use crate::touched_files::count_files;
 use crate::{InlineOrder, LoadOrder};
 use cdb_files::Shelf;
 use cdb_grid::Tile;
 use cdb_model::Session;
 use cdb_source::Source;
+use cdb_touch::TouchError;
 use std::alloc::{AllocError, Global};
 use std::marker::Model;
 
@@ -116,7 +117,8 @@ impl Engine {
     /// Makes the source that an order spells. The number that has no value is -32768 for elevation
     /// and 0 for material. `Range` exactly where the order spells no source: a level that isn't
     /// one, a coordinate or a step that is no whole number of arc units or out of range, rows and
-    /// columns out of range, another number of posts, or a post out of range.
+    /// columns out of range, another number of posts, or a post out of range. `Memory`: memory for
+    /// the posts was refused.
     pub fn inline(&self, alloc: Global, order: &InlineOrder) -> Result<Source, InlineError>
         ensures spelled { IfOk result (SpellsSource (inline_in order.now)) }
         ensures range { result ≡ Err InlineError.Range → SpellsNone (SpellsSource (inline_in order.now)) }
@@ -128,7 +130,8 @@ impl Engine {
     /// piece, opened as a TIFF file, and given row by row. The errors come in this order: `Shelf`
     /// only where a call of the shelf failed, `Absent` exactly where there is no such file, `Big`
     /// exactly where it has more than 67,108,864 bytes, `Input` exactly where it isn't a TIFF file
-    /// that is read, and `Range` exactly where the order spells no source with it.
+    /// that is read, and `Range` exactly where the order spells no source with it. `Memory`: memory
+    /// for the bytes of the file or for the posts was refused.
     pub fn load<H: Shelf>(
         &self,
         alloc: Global,
@@ -143,8 +146,8 @@ impl Engine {
         loaded(alloc, order, shelf)
     }
 
-    /// Puts a source behind those that are pending, and answers how many are pending then. Where
-    /// memory is wanting the source comes back.
+    /// Puts a source behind those that are pending, and answers how many are pending then. To be
+    /// called where `ready` answers Ok. Where memory was refused the source comes back.
     pub fn submit(&mut self, source: Source) -> Result<u32, SubmitRefused>
         requires idle { self.old.state.going ≡ None }
         requires room { length self.old.state.pending < 64 }
@@ -164,7 +167,8 @@ impl Engine {
 
     /// Begins a publication of the sources that are pending. It has a file for each tile that they
     /// touch. `Busy`: a publication is going. `Nothing`: no source is pending. `Large`: the load of
-    /// the sources, `count`, is above 16,384.
+    /// the sources, `count`, is above 16,384. `Memory`: memory was refused, or the version would pass
+    /// `2^32 - 1`.
     pub fn publish(&mut self, alloc: Global) -> Result<Begun, PublishError>
         ensures step { Step self.old.state begin (publish_answer result) self.new.state }
         ensures busy { (result ≡ Err PublishError.Busy) ↔ IsSome self.old.state.going }
@@ -187,13 +191,14 @@ impl Engine {
                 self.going = Some(self.pending.take());
                 Ok(Begun { version, files })
             }
-            Err(CountError::Large { count }) => Err(PublishError::Large { count }),
-            Err(CountError::Memory) => Err(PublishError::Memory),
+            Err(TouchError::Large { count }) => Err(PublishError::Large { count }),
+            Err(TouchError::Memory) => Err(PublishError::Memory),
         }
     }
 
     /// Makes all steps of the publication that is going, and answers its version. `Nothing`: none
-    /// is going.
+    /// is going. `Memory`: memory was refused, or the version would pass `2^32 - 1`; the publication
+    /// is still going then.
     pub fn finish(&mut self) -> Result<u32, AdvanceError>
         ensures step { Step self.old.state finish (finish_answer result) self.new.state }
         ensures nothing { (result ≡ Err AdvanceError.Nothing) ↔ (self.old.state.going ≡ None) }
@@ -217,7 +222,7 @@ impl Engine {
     }
 
     /// Opens a session at the newest version. Numbers are 1, 2, 3 and so on, and none is used again.
-    /// `Many`: 64 sessions are open.
+    /// `Many`: 64 sessions are open. `Memory`: memory was refused, or `2^32 - 1` sessions were opened.
     pub fn open_session(&mut self) -> Result<Opened, SessionError>
         ensures step { Step self.old.state connect (session_answer result) self.new.state }
         ensures many { (result ≡ Err SessionError.Many) ↔ (length self.old.state.sessions ≡ 64) }
@@ -255,8 +260,9 @@ impl Engine {
     }
 
     /// Asks for a tile in a session, which answers from the publications up to its version. Where
-    /// a source of these reaches the tile, `Engine::reply` has the bytes of its file then. `Unknown`:
-    /// no session of that number is open.
+    /// a source of these reaches the tile, `Engine::reply` has the bytes of its file then; in every
+    /// other case, an error included, it is empty. `Unknown`: no session of that number is open.
+    /// `Memory`: memory for the values or for the bytes of a tile that is reached was refused.
     pub fn tile(&mut self, id: u32, tile: &Tile) -> Result<Reply, TileError>
         ensures step { Step self.old.state (ask id tile.now) (tile_answer result self.new.reply) self.new.state }
         ensures unknown { (result ≡ Err TileError.Unknown) ↔ (session_of id self.old.state.sessions ≡ None) }
@@ -274,7 +280,8 @@ impl Engine {
         }
     }
 
-    /// The bytes of the tile that was asked for last; none where that request had no file.
+    /// The bytes of the file of the tile that was asked for last; none where that request was answered
+    /// `Missing` or by an error, and none before the first request.
     pub fn reply(&self) -> &[u8]
         ensures { result.now ≡ self.now.reply }
     {

@@ -14,6 +14,7 @@ pub enum ReadyError {
 /// Why no source was made of an order with posts.
 #[derive(Clone, Copy, Debug, PartialEq, Eq)]
 pub enum InlineError {
+    /// Memory was refused.
     Memory,
     /// The order spells no source.
     Range,
@@ -22,6 +23,7 @@ pub enum InlineError {
 /// Why no source was made of an order with a file.
 #[derive(Clone, Copy, Debug, PartialEq, Eq)]
 pub enum LoadError {
+    /// Memory was refused.
     Memory,
     /// A call of the shelf failed.
     Shelf,
@@ -35,7 +37,7 @@ pub enum LoadError {
     Range,
 }
 
-/// Memory for one more source was wanting: the source comes back.
+/// Memory for one more source was refused: the source comes back.
 #[derive(Debug, Drop)]
 pub struct SubmitRefused {
     pub source: Source,
@@ -44,12 +46,16 @@ pub struct SubmitRefused {
 /// Why no publication was begun.
 #[derive(Clone, Copy, Debug, PartialEq, Eq, Error)]
 pub enum PublishError {
+    /// A publication is going.
     #[error("a publication is going")]
     Busy,
+    /// No source is pending.
     #[error("no source is pending")]
     Nothing,
+    /// The load of the pending sources, `count`, is above 16,384.
     #[error("the load of the pending sources is {count}, above 16384")]
     Large { count: u128 },
+    /// Memory was refused, or the version would pass `2^32 - 1`.
     #[error("out of memory")]
     Memory,
 }
@@ -57,8 +63,10 @@ pub enum PublishError {
 /// Why no publication was finished.
 #[derive(Clone, Copy, Debug, PartialEq, Eq, Error)]
 pub enum AdvanceError {
+    /// No publication is going.
     #[error("no publication is going")]
     Nothing,
+    /// Memory was refused, or the version would pass `2^32 - 1`.
     #[error("out of memory")]
     Memory,
 }
@@ -66,6 +74,7 @@ pub enum AdvanceError {
 /// Why no session was opened.
 #[derive(Clone, Copy, Debug, PartialEq, Eq)]
 pub enum SessionError {
+    /// Memory was refused, or `2^32 - 1` sessions were opened.
     Memory,
     /// 64 sessions are open.
     Many,
@@ -80,5 +89,6 @@ pub struct Unknown;
 pub enum TileError {
     /// No session of that number is open.
     Unknown,
+    /// Memory was refused.
     Memory,
 }

@@ -23,8 +23,6 @@ pub fn loaded<H: Shelf>(
     ensures later { H.fault_count shelf.old ≤ H.fault_count shelf.new }
     ensures failed { result ≡ Err LoadError.Shelf → Rose (H.fault_count shelf.old) (H.fault_count shelf.new) }
 {
-    match read_file(alloc, &order.path, shelf) {
-        Ok(bytes) => source_of(alloc, order, &bytes),
-        Err(error) => Err(error),
-    }
+    let bytes = read_file(alloc, &order.path, shelf)?;
+    source_of(alloc, order, &bytes)
 }

@@ -4,5 +4,5 @@ use Rattle.cdb_engine.specs.Loading.{IsMadeOf}
 use Rattle.cdb_engine.proofs.FileLaws.{made_of_file}
 use Rattle.cdb_engine.proofs.source_file.loaded.Goals as goal
 
-pub returns-in-Ok-clause-loads : goal.returns-in-Ok-clause-loads
-returns-in-Ok-clause-loads g c = made_of_file _ _ (file_in c.args.order.now) c.in-Ok.bytes.items c.source_of.result c.in-Ok.ensures.reads (subst (λ (bytes : List ℕ). IsMadeOf (file_in c.args.order.now) bytes c.source_of.result) c.deref.ensures.value c.source_of.ensures)
+pub returns-clause-loads : goal.returns-clause-loads
+returns-clause-loads g c = made_of_file _ _ (file_in c.args.order.now) c.in_ok-bytes.bytes.items c.source_of.result c.in_ok-bytes.ensures.reads (subst (λ (bytes : List ℕ). IsMadeOf (file_in c.args.order.now) bytes c.source_of.result) c.deref.ensures.value c.source_of.ensures)

@@ -8,7 +8,7 @@ put_file-requires-clause-small c = subst (IsSmall c.args.tile.now.family) (sym c
 
 pub returns : goal.returns
 returns c = record {
-  reached = c.in_ok-build_frame.ensures.reached.0 c.if-not-branch.false;
+  reached = c.is_reached.ensures.0 c.if-not-is_reached.false;
   bytes_are = c.in_ok-put_file.ensures.ok ∙ ap (frame_bytes c.args.tile.now) c.deref.ensures.value ∙ frame_file c.args.sources.now c.args.tile.now c.build_frame.new.frame.items c.in_ok-build_frame.ensures.frame;
   count_is = omega arith;
 }
