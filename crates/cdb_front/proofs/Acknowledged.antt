@@ -11,7 +11,7 @@ use Rattle.cdb_model.specs.Commands.{Command}
 use Rattle.cdb_model.specs.Machine as machine
 use Rattle.cdb_model.specs.Machine.{State, Answer, Event, Step, Gives, Loads, Begins, Finishes, Connects, Asks, Disconnects, Tells, IsLong, IsSyntax, IsName, IsNotBuilt}
 use Rattle.cdb_model.specs.Run.{Run, text_of}
-use Rattle.cdb_model.specs.Acknowledged.{begun_by, completes, completed, whole_answers, HasAnything, AcknowledgedStand}
+use Rattle.cdb_model.specs.Acknowledged.{begun_by, completes, completed, whole_answers, AcknowledgedStand}
 
 -- a state whose publications are those of another, and one that has one more
 same : (old new : State) → new ≡ old → length new.list ≡ length old.list + 0
@@ -102,13 +102,13 @@ step_grows old new machine.unreadable answer step = left old new answer (none_co
 step_grows old new (machine.misnamed place) answer step = left old new answer (none_complete answer (inr (inr (inr (place, step.0))))) step.1
 step_grows old new machine.unbuilt answer step = left old new answer (none_complete answer (inr (inr (inl step.0)))) step.1
 
-run_grows : (old new : State) (commands : List Command) (answers : List Answer) → Run HasAnything old commands answers new → length new.list ≡ length old.list + completed answers
-run_grows old new [] [] run = ap (λ (s : State). length s.list) run ∙ omega arith
-run_grows old new [] (a ∷ answers) run = absurd run
-run_grows old new (c ∷ commands) [] run = absurd run
-run_grows old new (c ∷ commands) (a ∷ answers) run =
+run_grows : (Has : Text → Content → Type 0) (old new : State) (commands : List Command) (answers : List Answer) → Run Has old commands answers new → length new.list ≡ length old.list + completed answers
+run_grows Has old new [] [] run = ap (λ (s : State). length s.list) run ∙ omega arith
+run_grows Has old new [] (a ∷ answers) run = absurd run
+run_grows Has old new (c ∷ commands) [] run = absurd run
+run_grows Has old new (c ∷ commands) (a ∷ answers) run =
     let first = step_grows old run.0 run.1.event a run.1.step in
-    let rest = run_grows run.0 new commands answers run.2 in
+    let rest = run_grows Has run.0 new commands answers run.2 in
     omega (arith, first, rest)
 
 fewer_whole : (answers : List Answer) (written : Text) → completed (whole_answers answers written) ≤ completed answers
@@ -120,10 +120,10 @@ fewer_whole (a ∷ answers) written = by (starts_with nat_eq written (text_of a)
     by true fewer = omega arith
     by false fewer = omega arith
 
-pub acknowledged_stand : AcknowledgedStand
-acknowledged_stand commands answers state written run =
+pub acknowledged_stand : (Has : Text → Content → Type 0) → AcknowledgedStand Has
+acknowledged_stand Has commands answers state written run =
     let n = completed (whole_answers answers written) in
-    let grown : length state.list ≡ 0 + completed answers = run_grows machine.start state commands answers run in
+    let grown : length state.list ≡ 0 + completed answers = run_grows Has machine.start state commands answers run in
     let few : n ≤ length state.list = omega (arith, grown, fewer_whole answers written) in
     let e : take n (begun_by state) ≡ take n state.list = take-append-le n state.list (option_to_list state.going) few in
     (drop n state.list, sym (ap (λ l. l ++ drop n state.list) e ∙ take-append-drop n state.list))
