@@ -57,19 +57,20 @@ fn a_file_is_a_source(rt: HostRuntime) -> Result<(), Fail> {
     Ok(())
 }
 
+/// The worked file with another byte at one place, and the answer.
+static CHANGED: [(usize, u8, &[u8]); 6] = [
+    (2, 0x2b, b"refused input bigtiff\n"),
+    (54, 5, b"refused input compressed\n"),
+    (138, 3, b"refused input float\n"),
+    (70, 0x12, b"refused input absent 273\n"),
+    (198, 0xd7, b"refused input short\n"),
+    (18, 0, b"refused input size\n"),
+];
+
 #[test]
-fn files_are_refused(rt: HostRuntime) -> Result<(), Fail> {
-    // The worked file with another byte at one place, and the answer.
-    let rows: [(usize, u8, &[u8]); 6] = [
-        (2, 0x2b, b"refused input bigtiff\n"),
-        (54, 5, b"refused input compressed\n"),
-        (138, 3, b"refused input float\n"),
-        (70, 0x12, b"refused input absent 273\n"),
-        (198, 0xd7, b"refused input short\n"),
-        (18, 0, b"refused input size\n"),
-    ];
-    for row in rows {
-        let file = changed(rt.alloc(), row.0, row.1)?;
+fn changed_files_are_refused(rt: HostRuntime) -> Result<(), Fail> {
+    for (place, byte, answer) in CHANGED.iter() {
+        let file = changed(rt.alloc(), *place, *byte)?;
         let (status, output) = answers(
             rt.alloc(),
             file,
@@ -77,9 +78,15 @@ fn files_are_refused(rt: HostRuntime) -> Result<(), Fail> {
             b"source elev -9 46 7 1/2 1/2 -32768 a.tif\n",
         )?;
         assert_eq!(rt; status, Status::Done);
-        assert_eq!(rt; output.written(), row.2);
+        assert_eq!(rt; output.written(), *answer);
     }
-    // A file that ends too early, one that isn't there, and numbers that are out of range, which come last.
+    Ok(())
+}
+
+/// A file that ends too early, one that isn't there, and numbers that are out of range, which come
+/// last.
+#[test]
+fn orders_with_files_are_refused(rt: HostRuntime) -> Result<(), Fail> {
     let mut cut = Vec::from_slice(rt.alloc(), LITTLE)?;
     cut.truncate(217);
     let (_, output) = answers(
@@ -158,17 +165,11 @@ fn a_large_file_is_sampled(rt: HostRuntime) -> Result<(), Fail> {
         b"source elev 1 47 11 1/3600 1/3600 -32768 a.tif\npublish\nstep all\nopen\ntile 1 N47E011_D001_S001_T001_L01_U0_R0.tif\n",
     )?;
     assert_eq!(rt; status, Status::Done);
-    let Some(tiles) = output.written().strip_prefix(
-        b"source 1\nbegun 1 159\npublished 1\nsession 1 1\n".as_slice(),
-    )
-    else {
-        assert!(rt; false);
-        return Ok(());
-    };
-    let Some((raster, rest)) = tile_after(tiles) else {
-        assert!(rt; false);
-        return Ok(());
-    };
+    let tiles = output
+        .written()
+        .strip_prefix(b"source 1\nbegun 1 159\npublished 1\nsession 1 1\n".as_slice())
+        .ok_or("answers")?;
+    let (raster, rest) = tile_after(tiles).ok_or("raster")?;
     assert!(rt; has_rows(raster));
     assert!(rt; rest.is_empty());
     Ok(())

@@ -58,32 +58,17 @@ fn the_finest_level_is_seen_from_above(rt: HostRuntime) -> Result<(), Fail> {
         4096,
     )?;
     assert_eq!(rt; status, Status::Done);
-    let Some(tiles) = output.written().strip_prefix(
-        b"source 1\nbegun 1 102\npublished 1\nsession 1 1\n".as_slice(),
-    )
-    else {
-        assert!(rt; false);
-        return Ok(());
-    };
-    let Some((coarse, rest)) = tile_after(tiles) else {
-        assert!(rt; false);
-        return Ok(());
-    };
+    let tiles = output
+        .written()
+        .strip_prefix(b"source 1\nbegun 1 102\npublished 1\nsession 1 1\n".as_slice())
+        .ok_or("answers")?;
+    let (coarse, rest) = tile_after(tiles).ok_or("coarse")?;
     assert_eq!(rt; coarse, [0x00, 0x80].as_slice());
-    let Some((least, rest)) = tile_after(rest) else {
-        assert!(rt; false);
-        return Ok(());
-    };
+    let (least, rest) = tile_after(rest).ok_or("least")?;
     assert_eq!(rt; least, [0x07, 0x00].as_slice());
-    let Some((greatest, rest)) = tile_after(rest) else {
-        assert!(rt; false);
-        return Ok(());
-    };
+    let (greatest, rest) = tile_after(rest).ok_or("greatest")?;
     assert_eq!(rt; greatest, [0x07, 0x00].as_slice());
-    let Some((finest, rest)) = tile_after(rest) else {
-        assert!(rt; false);
-        return Ok(());
-    };
+    let (finest, rest) = tile_after(rest).ok_or("finest")?;
     assert_eq!(rt; finest.len(), 2097152);
     // The post stands in the last element of the north row.
     assert!(rt; finest.starts_with([0x00, 0x80].as_slice()));
