@@ -1,4 +1,4 @@
-use crate::{Engine, InlineError, InlineOrder, Kind, Opened, PublishError, Reply, TileError, laws};
+use crate::{Engine, InlineError, InlineOrder, Kind, Opened, PublishError, Reply, TileError};
 use arrayvec::ArrayVec;
 use cdb_grid::{Arc, Family, Fraction, Level, Tile, tile_at};
 use std::alloc::Global;
@@ -132,11 +132,4 @@ fn sessions_end(rt: HostRuntime) -> Result<(), Fail> {
     assert!(rt; engine.close_session(1) == Ok(()));
     assert!(rt; engine.tile(1, &square) == Err(TileError::Unknown));
     Ok(())
-}
-
-/// Each law is a call that does nothing.
-#[test]
-fn laws_are_called() {
-    laws::one_answer();
-    laws::free_answers_change_nothing();
 }
