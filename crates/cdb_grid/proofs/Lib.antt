@@ -7,3 +7,5 @@ pub mod PyramidLaws
 pub mod SpotLaws
 pub mod ChildLaws
 pub mod FrameLaws
+pub mod ChildPlaces
+pub mod TileOrder

@@ -1,5 +1,5 @@
 -- Laws of widths, steps and counts, over plain numbers.
-use Rattle.std.proofs.Common.{◌≡◌, ℕ, suc, ◌+◌, ◌-◌, ◌*◌, ◌/◌, ◌%◌, ◌^◌, ◌<◌, ◌≤◌, min, nat_lt, refl, sym, ◌∙◌, ap, subst, ℤ, pos, negsuc, ◌+ℤ◌, ◌≤ℤ◌, arith, lit<}
+use Rattle.std.proofs.Common.{◌≡◌, ℕ, suc, ◌+◌, ◌-◌, ◌*◌, ◌/◌, ◌%◌, ◌^◌, ◌<◌, ◌≤◌, min, nat_lt, refl, sym, ◌∙◌, ap, subst, ℤ, pos, negsuc, ◌+ℤ◌, ◌≤ℤ◌, ◌<ℤ◌, arith, lit<}
 use Prim.Native.Nat.{◌∣◌}
 use Rattle.std.proofs.lemmas.Bool.{cond_both}
 use Rattle.std.proofs.lemmas.Int.{ints}
@@ -139,3 +139,21 @@ height-same (negsuc k) (negsuc l) a b e = omega (arith, ints)
 
 pub tiles-le : (h : ℕ) → tiles_of h ≤ 16777216
 tiles-le h = let le : 24 - h ≤ 24 = omega arith in pow_mono {j = 24} le
+
+-- one shifted by at most 23, as 32 bits hold it
+pub shifted_32 : (h : ℕ) → 1 ≤ h → (1 * 2 ^ (24 - h)) % 2 ^ 32 ≡ tiles_of h
+shifted_32 h le = let lt : 24 - h < 32 = omega arith in one_shl (24 - h) 32 lt
+
+pub tiles_least : (h : ℕ) → 1 ≤ 2 ^ (24 - h)
+tiles_least h = pow_pos (24 - h)
+
+pub tiles_most : (h : ℕ) → 1 ≤ h → tiles_of h ≤ 8388608
+tiles_most h le = let m : 24 - h ≤ 23 = omega arith in pow_mono {j = 23} m
+
+-- the tiles of a level along a side of a geocell, by its number
+pub tiles_below_zero : (l : ℤ) → l <ℤ pos 0 → tiles_of (height_of l) ≡ 1
+tiles_below_zero (pos l) lt = absurd (omega (arith, ints))
+tiles_below_zero (negsuc l) lt = let e : 24 - (25 + l) ≡ 0 = omega arith in ap (λ n. 2 ^ n) e
+
+pub tiles_from_zero : (l : ℕ) → l ≤ 23 → tiles_of (height_of (pos l)) ≡ 2 ^ l
+tiles_from_zero l le = let e : 24 - (24 - l) ≡ l = omega arith in ap (λ n. 2 ^ n) e

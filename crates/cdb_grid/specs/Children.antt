@@ -1,7 +1,7 @@
 -- The parent and the children of a tile, as sets of places (OGC CDB 1.2 Volume 1, levels of detail).
-use Rattle.std.specs.Prelude.{◌≡◌, ℕ, ◌*◌, ◌/◌, pos, ◌+ℤ◌, List, [], ◌∷◌}
-use Rattle.cdb_grid.specs.Grid.{Place}
-use Rattle.cdb_grid.specs.Tiles.{tile_side, element_corner, IsInTile}
+use Rattle.std.specs.Prelude.{◌≡◌, ℕ, ◌+◌, ◌*◌, ◌/◌, ◌<◌, pos, ◌+ℤ◌, List, [], ◌∷◌}
+use Rattle.cdb_grid.specs.Grid.{Place, beside}
+use Rattle.cdb_grid.specs.Tiles.{tile_height, tile_side, element_corner, IsInTile}
 use Rattle.cdb_grid.specs.declared.tile.Tile.{Tile}
 
 -- a tile of the next coarser level of the same family has every place of another
@@ -37,3 +37,11 @@ pub record HasFourChildren (parent : Tile) (children : List Tile) : Type 0 where
 -- no place lies in both of two tiles
 abbrev pub AreApart : Tile → Tile → Type 0
 AreApart a b = (p : Place) → IsInTile a p → IsInTile b p → ⊥
+
+-- the elements of a child from a row and a column of its parent on: at even rows and columns they have the parent's
+-- corners, and the four from there are the four finer cells of the parent's cell
+pub record IsRefined (child parent : Tile) (row col : ℕ) : Type 0 where
+  pub corner : (r c : ℕ) → r < tile_side child / 2 → c < tile_side child / 2 →
+      element_corner child (2 * r) (2 * c) ≡ element_corner parent (row + r) (col + c)
+  pub cells : (r c i j : ℕ) → r < tile_side child / 2 → c < tile_side child / 2 → i < 2 → j < 2 →
+      element_corner child (2 * r + i) (2 * c + j) ≡ beside (tile_height child) (element_corner parent (row + r) (col + c)) i j

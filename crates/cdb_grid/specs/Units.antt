@@ -2,7 +2,7 @@
 --
 -- Geometry is counted in whole arc units from the south pole and from the meridian of -180 degrees, and in whole
 -- degrees from the same two. A level l has the height 24 - l: 1 at level 23 and 34 at level -10.
-use Rattle.std.specs.Prelude.{◌≡◌, ℕ, suc, ◌+◌, ◌-◌, ◌*◌, ◌^◌, ℤ, pos, negsuc, ◌*ℤ◌, ◌≤ℤ◌, ◌<ℤ◌, min, nat_lt, if◌then◌else◌}
+use Rattle.std.specs.Prelude.{◌≡◌, ℕ, suc, ◌+◌, ◌-◌, ◌*◌, ◌%◌, ◌^◌, ℤ, pos, negsuc, ◌*ℤ◌, ◌≤ℤ◌, ◌<ℤ◌, min, nat_lt, if◌then◌else◌}
 
 -- the arc units of one degree, which are 2025 * 2 ^ 34
 abbrev pub degree : ℕ
@@ -58,6 +58,15 @@ width_at y =
     if nat_lt y 165 then 3 else
     if nat_lt y 170 then 4 else
     if nat_lt y 179 then 6 else 12
+
+-- whole degrees of the south-west corner of a geocell: on the globe, and a whole multiple of its zone's width from the
+-- meridian of -180 degrees
+pub record IsGeocell (lat lon : ℤ) : Type 0 where
+  pub south : negsuc 89 ≤ℤ lat
+  pub north : lat ≤ℤ pos 89
+  pub west : negsuc 179 ≤ℤ lon
+  pub east : lon ≤ℤ pos 179
+  pub on_grid : column_of lon % width_at (row_of lat) ≡ 0
 
 -- so many units are n/d degrees, d is above 0, and they are at most 360 degrees to either side
 pub record IsFraction (n d units : ℤ) : Type 0 where

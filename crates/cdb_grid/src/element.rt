@@ -18,11 +18,24 @@ pub fn place(tile: &Tile, row: u32, col: u32) -> (Arc, Arc)
     ensures on_globe { IsOnGlobe result.0.units result.1.units }
     ensures within { IsInTile tile.now (point_of result.0 result.1) }
 {
+    let (north, east) = corner(tile, row, col);
     let inset = inset(tile.family, tile.level);
-    let north = units::row(tile.cell) * DEGREE + along(tile.level, tile.up, row) + inset;
+    units::arcs(north + inset, east + inset * units::width(tile.cell))
+}
+
+/// The south-west corner of the cell of the element at a row and a column of a tile: its arc units from
+/// the south pole and, eastward, from the meridian of -180 degrees. The cell lies on the globe.
+pub fn corner(tile: &Tile, row: u32, col: u32) -> (u64, u64)
+    requires row { row < tile_side tile.now }
+    requires col { col < tile_side tile.now }
+    ensures corner { record { north = result.0; east = result.1 } ≡ element_corner tile.now row col }
+    ensures north { result.0 + step (tile_height tile.now) ≤ 180 * degree }
+    ensures east { result.1 + tile_step_east tile.now ≤ 360 * degree }
+{
+    let north = units::row(tile.cell) * DEGREE + along(tile.level, tile.up, row);
     let east = units::column(tile.cell) * DEGREE
-        + (along(tile.level, tile.right, col) + inset) * units::width(tile.cell);
-    units::arcs(north, east)
+        + along(tile.level, tile.right, col) * units::width(tile.cell);
+    (north, east)
 }
 
 /// The arc units from the edge of a geocell to the cell at an index of a tile, where a cell is one

@@ -10,6 +10,7 @@ mod geocell;
 pub mod laws;
 mod level;
 mod locate;
+mod part;
 mod pyramid;
 mod spot;
 #[cfg(test)]
@@ -19,14 +20,15 @@ pub mod units;
 mod zone;
 
 pub use arc::{Arc, DEGREE};
-pub use element::place;
+pub use element::{corner, place};
 pub use family::Family;
 pub use fraction::Fraction;
 pub use geocell::Geocell;
 pub use level::Level;
 pub use locate::{geocell_at, tile_at};
+pub use part::{FourRule, RowRule, change_part, fold_four};
 pub use pyramid::{children, parent, spot_of};
 pub use spot::Spot;
 pub use tile::{ChildTiles, Tile};
-pub use units::side;
+pub use units::{side, tiles_across};
 pub use zone::{Zone, zone_of};

@@ -32,6 +32,28 @@ fn geocells_of_points(rt: HostRuntime) {
 }
 
 #[test]
+fn geocells_by_their_corners(rt: HostRuntime) {
+    for (lat, lon, is_one) in [
+        (49, 7, true),
+        (50, 6, true),
+        (50, 7, false),
+        (-51, 7, false),
+        (89, -180, true),
+        (89, 6, false),
+        (-90, 168, true),
+        (-90, 179, false),
+        (90, 0, false),
+        (-91, 0, false),
+        (0, 179, true),
+        (0, 180, false),
+        (0, -181, false),
+    ] {
+        let cell = Geocell::new(lat, lon);
+        assert_eq!(rt; cell.map(|g| (g.lat, g.lon)), is_one.then_some((lat, lon)));
+    }
+}
+
+#[test]
 fn first_and_last_geocells(rt: HostRuntime) {
     let degree = DEGREE as i64;
     for (lat, last_west) in [
@@ -69,15 +91,16 @@ fn first_and_last_geocells(rt: HostRuntime) {
 
 #[test]
 fn levels_and_fractions(rt: HostRuntime) {
-    for (number, step, side_of_tile) in [
-        (-10, 34_789_235_097_600, 1),
-        (-9, 17_394_617_548_800, 2),
-        (0, 33_973_862_400, 1024),
-        (1, 16_986_931_200, 1024),
-        (23, 4_050, 1024),
+    for (number, step, side_of_tile, across) in [
+        (-10, 34_789_235_097_600, 1, 1),
+        (-9, 17_394_617_548_800, 2, 1),
+        (0, 33_973_862_400, 1024, 1),
+        (1, 16_986_931_200, 1024, 2),
+        (23, 4_050, 1024, 8_388_608),
     ] {
         assert_eq!(rt; units::step_of(level(&rt, number)), step);
         assert_eq!(rt; side(level(&rt, number)), side_of_tile);
+        assert_eq!(rt; tiles_across(level(&rt, number)), across);
     }
     assert_eq!(rt; Level::new(-11), None);
     assert_eq!(rt; Level::new(24), None);

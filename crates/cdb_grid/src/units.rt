@@ -1,7 +1,7 @@
 //! Heights of levels and their steps, and places in arc units and whole degrees from the south pole
 //! and from the meridian of -180 degrees.
 ghost use Rattle.std.specs.Prelude.{◌≡◌, ℤ, pos, negsuc, ◌≤ℤ◌, ◌<ℤ◌, ◌+◌, ◌-◌, ◌*◌, ◌<◌, ◌≤◌, ◌%◌, ◌↔◌, IsTrue};
-ghost use Rattle.cdb_grid.specs.Units.{degree, height_of, step, side_of, width_at, row_of, column_of, from_pole, from_west, IsOnGlobe};
+ghost use Rattle.cdb_grid.specs.Units.{degree, height_of, step, side_of, tiles_of, width_at, row_of, column_of, from_pole, from_west, IsOnGlobe};
 
 use crate::arc::{Arc, DEGREE};
 use crate::geocell::Geocell;
@@ -49,6 +49,17 @@ pub fn side(level: Level) -> u32
     ensures most { result ≤ 1024 }
 {
     1 << (34 - height(level)).min(10)
+}
+
+/// The tiles of a level along one side of a geocell: 1 below level 0, and from there on 2 to the power
+/// of the level, at most 8,388,608 (OGC CDB 1.2 Volume 1, levels of detail).
+#[tactic(auto, using(crate::proofs::UnitLaws::shifted_32, crate::proofs::UnitLaws::tiles_least, crate::proofs::UnitLaws::tiles_most))]
+pub fn tiles_across(level: Level) -> u32
+    ensures value { result ≡ tiles_of (height_of level.number) }
+    ensures least { 1 ≤ result }
+    ensures most { result ≤ 8388608 }
+{
+    1 << 24u32.saturating_sub(height(level))
 }
 
 /// The arc units of a tile of a level from its south edge to its north edge.
