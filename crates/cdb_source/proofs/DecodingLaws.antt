@@ -81,11 +81,11 @@ same_front a b x y e =
     let rests : x ≡ y = sym (drop_at (front_text a) x 52 (length-front_text a)) ∙ ap (drop 52) e ∙ drop_at (front_text b) y 52 (length-front_text b) in
     (one_head (front_text a) a b (has_head (front_text a) a refl) (has_head (front_text a) b fronts), rests)
 
-any_number : (kind : Kind) (z : ℤ) → IsPost kind z → IsPost Elevation z
+pub any_number : (kind : Kind) (z : ℤ) → IsPost kind z → IsPost Elevation z
 any_number Elevation z h = h
 any_number Material z h = let least = h.least in let greatest = h.greatest in record { least = omega (arith, ints); greatest = omega (arith, ints) }
 
-number_fits : (z : ℤ) → IsPost Elevation z → SFits w16 z × (cast_unsigned w16 z < 2 ^ 16)
+pub number_fits : (z : ℤ) → IsPost Elevation z → SFits w16 z × (cast_unsigned w16 z < 2 ^ 16)
 number_fits (pos n) h = let greatest = h.greatest in (record { sfits = omega (arith, ints) }, omega (arith, ints))
 number_fits (negsuc n) h = let least = h.least in (record { sfits = omega (arith, ints) }, omega arith)
 
@@ -99,7 +99,7 @@ same_post a b ha hb e =
 two_front : (a b : ℤ) (x y : List ℕ) → post_bytes a ++ x ≡ post_bytes b ++ y → (post_bytes a ≡ post_bytes b) × (x ≡ y)
 two_front a b x y e = (ap (take 2) e, ap (drop 2) e)
 
-All-rest : (kind : Kind) (p : ℤ) (ps : List ℤ) → All (IsPost kind) (p ∷ ps) → IsPost kind p × All (IsPost kind) ps
+pub All-rest : (kind : Kind) (p : ℤ) (ps : List ℤ) → All (IsPost kind) (p ∷ ps) → IsPost kind p × All (IsPost kind) ps
 All-rest kind p ps all = (all 0 (pos 0) (omega arith), λ k d lt. all (suc k) d (omega arith))
 
 -- the post after so many posts of a text, which goes on with more
@@ -114,7 +114,7 @@ post_there kind (x ∷ xs) (y ∷ ys) n more rest all others fits lt e =
     post_there kind xs ys n more rest (All-rest kind x xs all).1 (All-rest kind y ys others).1 fits shorter
     (two_front x y (posts_text xs ++ more) (posts_text ys ++ (post_bytes n ++ rest)) (sym (append_assoc (post_bytes x) (posts_text xs) more) ∙ e ∙ append_assoc (post_bytes y) (posts_text ys) (post_bytes n ++ rest))).1
 
-same_posts : (xs ys : List ℤ) → All (IsPost Elevation) xs → All (IsPost Elevation) ys → posts_text xs ≡ posts_text ys → xs ≡ ys
+pub same_posts : (xs ys : List ℤ) → All (IsPost Elevation) xs → All (IsPost Elevation) ys → posts_text xs ≡ posts_text ys → xs ≡ ys
 same_posts [] [] a b e = refl
 same_posts [] (y ∷ ys) a b e = absurd cc
 same_posts (x ∷ xs) [] a b e = absurd cc
@@ -158,8 +158,12 @@ one_source a b e =
 other_or_front : (bytes rest : List ℕ) (head : SourceHead) → IsOther bytes → bytes ≡ front_text head ++ rest → ⊥
 other_or_front bytes rest head other e = other.never (head_text head ++ rest) (e ∙ append_assoc first_bytes (head_text head) rest)
 
-length-source_text : (source : Source) → length (source_text source) ≡ 52 + 2 * post_count source.head
+-- the 52 bytes of the head, and two bytes for each post
+pub length-source_text : (source : Source) → length (source_text source) ≡ 52 + 2 * post_count source.head
 length-source_text source = length-append (front_text source.head) (posts_text source.posts) ∙ omega (arith, length-front_text source.head, length-posts_text source.posts, source.count)
+
+pub most-source_text : (source : Source) → length (source_text source) ≤ 33554484
+most-source_text source = let n = length-source_text source in let most = source.head.in_range.raster.posts_most in omega arith
 
 -- the head of a source's file, and what follows it
 source_front : (bytes more : List ℕ) (source : Source) → bytes ≡ source_text source ++ more → bytes ≡ front_text source.head ++ (posts_text source.posts ++ more)

@@ -94,6 +94,19 @@ fn changed_files(rt: HostRuntime) -> Result<(), Fail> {
 }
 
 #[test]
+fn posts_of_runs(rt: HostRuntime) {
+    // the same six bytes as posts of each kind: 500, -32768 and 255
+    for (kind, posts) in [
+        (Kind::Elevation, [500, -32768, 255]),
+        (Kind::Material, [0, 0, 255]),
+    ] {
+        let mut to = [7; 3];
+        decode_posts(kind, &[0x01, 0xF4, 0x80, 0x00, 0x00, 0xFF], &mut to);
+        assert_eq!(rt; to, posts);
+    }
+}
+
+#[test]
 fn posts_of_material(rt: HostRuntime) -> Result<(), Fail> {
     // so many bytes of a file of two posts, the posts, and the first bad place
     let table = [

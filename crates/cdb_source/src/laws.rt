@@ -2,6 +2,10 @@
 //! from the new sources of this level, and from what was there before; and those of the place that is
 //! told of bytes that aren't a source's. Each function does nothing; its contract is the law, for every
 //! list of sources, or for all bytes.
+ghost use Rattle.std.specs.Prelude.{◌≡◌, ◌+◌, ◌*◌, ◌≤◌, length};
+ghost use Rattle.cdb_source.specs.declared.head.SourceHead as heads;
+ghost use Rattle.cdb_source.specs.declared.source.Source as sources;
+ghost use Rattle.cdb_source.specs.Texts.{front_text, source_text};
 ghost use Rattle.cdb_source.specs.Decoding.{OneBadPlace, SourceHasNone};
 ghost use Rattle.cdb_source.specs.Laws.{BestSource, FinerPlaces, FromFiner, EarlierStand, ThreePasses, LeastOfCell, GreatestOfCell, MostFrequent, MaterialLater, ReachingAlone, Samples, TouchedWithinLoad};
 
@@ -81,4 +85,11 @@ pub fn one_bad_place()
 /// The file of a source has no bad part, at whatever place.
 pub fn source_has_none()
     ensures { SourceHasNone }
+{}
+
+/// The file of a source has 52 bytes, and two for each post: at most 33,554,484.
+pub fn source_file_length()
+    ensures front { (head : heads.SourceHead) → length (front_text head) ≡ 52 }
+    ensures whole { (s : sources.Source) → length (source_text s) ≡ 52 + 2 * (s.head.rows * s.head.cols) }
+    ensures most { (s : sources.Source) → length (source_text s) ≤ 33554484 }
 {}

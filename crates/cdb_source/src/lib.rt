@@ -5,22 +5,26 @@
 mod decode_error;
 mod decoding;
 mod encoding;
+mod families;
 mod head;
 mod kind;
 pub mod laws;
 mod maker;
 mod posts;
 mod row;
+mod runs;
 mod source;
 mod span;
 
 pub use decode_error::DecodeError;
 pub use decoding::{decode, decode_head};
 pub use encoding::{FIRST_BYTES, encode_head, encode_row};
+pub use families::kind_of;
 pub use head::SourceHead;
 pub use kind::Kind;
 pub use maker::{Range, SourceMaker};
 pub use posts::Posts;
+pub use runs::decode_posts;
 pub use source::Source;
 
 #[cfg(test)]

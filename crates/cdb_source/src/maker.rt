@@ -1,6 +1,6 @@
 use crate::head::SourceHead;
 use crate::posts::Posts;
-use crate::row::{is_row, no_value, put_row};
+use crate::row::{is_row, put_row};
 use crate::source::Source;
 use std::alloc::{AllocError, Global};
 use std::marker::Model;
@@ -41,7 +41,7 @@ impl SourceMaker {
         ensures due { IfOk result (λ maker. maker.due ≡ head.rows) }
         ensures posts { IfOk result (λ maker. maker.posts ≡ []) }
     {
-        let posts = vec![in alloc; no_value(head.kind); head.rows as usize * head.cols as usize]?;
+        let posts = vec![in alloc; head.kind.no_value(); head.rows as usize * head.cols as usize]?;
         Ok(SourceMaker {
             head,
             due: head.rows,
@@ -50,8 +50,8 @@ impl SourceMaker {
     }
 
     /// Takes the next row to the south, one number a column from west to east, while rows are due. A
-    /// number equal to `novalue` has no value. `Range` exactly where another number is outside -32768 to 32767 for elevation, or
-    /// outside 0 to 255 for material; the maker is then unchanged.
+    /// number equal to `novalue` has no value. `Range` exactly where another number is outside -32768 to
+    /// 32767 for elevation, or outside 0 to 255 for material; the maker is then unchanged.
     pub fn push_row(&mut self, row: &[i32], novalue: i32) -> Result<(), Range>
         requires due { 0 < self.old.due }
         requires row { length row.now ≡ self.old.head.cols }

@@ -1,18 +1,8 @@
 //! One row of numbers, and the posts that it becomes.
 ghost use Rattle.std.specs.Prelude.{◌≡◌, ◌+◌, ◌≤◌, ◌↔◌, ◌++◌, IsTrue, All, map, take, drop, length};
-ghost use Rattle.cdb_source.specs.Posts.{IsAllowed, IsPost, none_of, post_of};
+ghost use Rattle.cdb_source.specs.Posts.{IsAllowed, IsPost, post_of};
 
 use crate::kind::Kind;
-
-/// The post that stands for no value.
-pub(crate) fn no_value(kind: Kind) -> i16
-    ensures { result ≡ none_of kind }
-{
-    match kind {
-        Kind::Elevation => -32768,
-        Kind::Material => 0,
-    }
-}
 
 pub(crate) fn is_post(kind: Kind, number: i32) -> bool
     ensures { IsTrue result ↔ IsPost kind number }
@@ -47,7 +37,7 @@ fn post(kind: Kind, novalue: i32, number: i32) -> i16
     ensures in_range { IsPost kind result }
 {
     if number == novalue {
-        no_value(kind)
+        kind.no_value()
     } else {
         number as i16
     }

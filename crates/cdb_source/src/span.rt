@@ -14,7 +14,8 @@ const TO_WEST: i64 = 180 * DEGREE as i64;
 /// Arc units of 12 degrees.
 const GREATEST_STEP: u64 = 12 * DEGREE;
 
-fn step_size(step: Arc) -> u64
+/// The arc units of a step, 0 for a negative one.
+pub(crate) fn step_size(step: Arc) -> u64
     ensures { result ≡ size_of step.units }
 {
     if step.units < 0 { 0 } else { step.units as u64 }
@@ -38,7 +39,7 @@ pub(crate) fn is_grid(rows: u32, cols: u32) -> bool
 }
 
 /// How far so many rows or columns reach, in arc units. It can pass 64 bits.
-fn reach(kind: Kind, count: u32, size: u64) -> u128
+pub(crate) fn reach(kind: Kind, count: u32, size: u64) -> u128
     requires { 1 ≤ count }
     ensures { result ≡ span kind count size }
 {

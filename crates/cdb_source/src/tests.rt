@@ -1,5 +1,5 @@
 use super::*;
-use cdb_grid::{Arc, Level};
+use cdb_grid::{Arc, Family, Level};
 use std::alloc::Global;
 use std::test::Fail;
 
@@ -72,6 +72,50 @@ fn heads_at_their_limits(rt: HostRuntime) -> Result<(), Fail> {
         );
     }
     Ok(())
+}
+
+/// A kind, rows and columns of half a degree from N46E007, and the box in halves of a degree from the
+/// south pole and from the meridian of -180 degrees: south, north, west and east.
+static BOXES: [(Kind, u32, u32, [u64; 4]); 5] = [
+    (Kind::Elevation, 1, 1, [272, 272, 374, 374]),
+    (Kind::Material, 1, 1, [272, 273, 374, 375]),
+    (Kind::Elevation, 3, 5, [272, 274, 374, 378]),
+    // to the pole and to the meridian of 180 degrees
+    (Kind::Elevation, 89, 347, [272, 360, 374, 720]),
+    (Kind::Material, 88, 346, [272, 360, 374, 720]),
+];
+
+#[test]
+fn boxes_of_sources(rt: HostRuntime) -> Result<(), Fail> {
+    let level = Level::new(-9).ok_or("level")?;
+    let half = DEGREE / 2;
+    let lat = arc(92 * half).ok_or("lat")?;
+    let lon = arc(14 * half).ok_or("lon")?;
+    let step = arc(half).ok_or("step")?;
+    for (kind, rows, cols, edges) in BOXES.iter() {
+        let head = SourceHead::new(*kind, level, lat, lon, step, step, *rows, *cols).ok_or("head")?;
+        let [south, north, west, east] = *edges;
+        let half = half as u64;
+        assert_eq!(rt;
+            [head.south(), head.north(), head.west(), head.east()],
+            [south * half, north * half, west * half, east * half]
+        );
+        assert_eq!(rt; [head.row_step(), head.column_step()], [half, half]);
+    }
+    Ok(())
+}
+
+#[test]
+fn kinds_of_families(rt: HostRuntime) {
+    for (family, kind, no_value) in [
+        (Family::Elev, Kind::Elevation, -32768),
+        (Family::Low, Kind::Elevation, -32768),
+        (Family::High, Kind::Elevation, -32768),
+        (Family::Mat, Kind::Material, 0),
+    ] {
+        assert_eq!(rt; kind_of(family), kind);
+        assert_eq!(rt; kind.no_value(), no_value);
+    }
 }
 
 /// The posts that a row becomes in a source of one row at N00E000, and whether it was taken. After a
@@ -161,5 +205,6 @@ fn rows_stand_south_first(rt: HostRuntime) -> Result<(), Fail> {
     laws::touched_within_load();
     laws::one_bad_place();
     laws::source_has_none();
+    laws::source_file_length();
     Ok(())
 }
