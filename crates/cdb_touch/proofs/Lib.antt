@@ -7,3 +7,4 @@ pub mod RectangleLaws
 pub mod LoadLaws
 pub mod AddLaws
 pub mod OrderLaws
+pub mod ReachedLaws

@@ -1,28 +1,13 @@
 //! The box of a source, and the rows and columns of tiles that hold its places.
 ghost use Rattle.std.specs.Prelude.{◌≡◌, ℕ, ◌↔◌, ◌+◌, ◌*◌, ◌/◌, ◌≤◌, ◌<◌};
-ghost use Rattle.cdb_grid.specs.Units.{degree, tiles_of, width_at};
-ghost use Rattle.cdb_source.specs.Head.{size_of, span};
-ghost use Rattle.cdb_source.specs.Sample.{corner_of, box_height, box_width};
+ghost use Rattle.cdb_grid.specs.Units.{tiles_of, width_at};
 ghost use Rattle.cdb_source.specs.Reached.{source_height};
 ghost use Rattle.cdb_touch.specs.Reach.{HasRow, HasColumn};
 
 use crate::axis::{Run, with_places};
 use crate::heights;
-use cdb_grid::{Arc, DEGREE, units};
-use cdb_source::{Kind, SourceHead};
-
-/// How far so many rows or columns reach from the first one.
-fn span(kind: Kind, count: u32, step: Arc) -> u64
-    requires count { 1 ≤ count }
-    requires step { 1 ≤ size_of step.units }
-    requires room { span kind count (size_of step.units) ≤ 360 * degree }
-    ensures { result ≡ span kind count (size_of step.units) }
-{
-    match kind {
-        Kind::Elevation => (count - 1) as u64 * step.units as u64,
-        Kind::Material => count as u64 * step.units as u64,
-    }
-}
+use cdb_grid::{DEGREE, units};
+use cdb_source::SourceHead;
 
 /// The rows of tiles of a height that hold a place of a source.
 pub(crate) fn rows(head: &SourceHead, height: u32) -> Run
@@ -33,14 +18,12 @@ pub(crate) fn rows(head: &SourceHead, height: u32) -> Run
     ensures within { result.end ≤ 180 * tiles_of height }
 {
     let step = units::step(units::height(head.level));
-    let south = units::north_of(head.lat);
-    let north = south + span(head.kind, head.rows, head.dlat);
     with_places(
         head.kind,
         step,
         heights::extent(height),
-        south,
-        north,
+        head.south(),
+        head.north(),
         180 * DEGREE,
     )
 }
@@ -56,14 +39,12 @@ pub(crate) fn columns(head: &SourceHead, height: u32, row: u64) -> Run
 {
     let width = units::width_of_row(row);
     let step = width * units::step(units::height(head.level));
-    let west = units::east_of(head.lon);
-    let east = west + span(head.kind, head.cols, head.dlon);
     with_places(
         head.kind,
         step,
         width * heights::extent(height),
-        west,
-        east,
+        head.west(),
+        head.east(),
         360 * DEGREE,
     )
 }

@@ -1,24 +1,14 @@
 //! Whether a source reaches a tile.
-ghost use Rattle.std.specs.Prelude.{◌≡◌, ◌↔◌, ◌≤◌, IsTrue};
+ghost use Rattle.std.specs.Prelude.{◌≡◌, ◌↔◌, ◌≤◌, IsTrue, map};
 ghost use Rattle.cdb_grid.specs.Tiles.{tile_height};
-ghost use Rattle.cdb_source.specs.Reached.{kind_of, source_height, Reaches};
+ghost use Rattle.cdb_source.specs.Reached.{source_height, Reaches, Reached};
 ghost use Rattle.cdb_touch.specs.Numbers.{tile_width, row_number, column_number};
 ghost use Rattle.cdb_touch.specs.Reach.{HasRow, HasColumn};
 
 use crate::head::{columns, rows};
 use crate::heights;
-use cdb_grid::{Family, Tile, units};
-use cdb_source::{Kind, SourceHead};
-
-/// The kind of sources from which a family of tiles takes its values.
-pub fn kind_of(family: Family) -> Kind
-    ensures { result ≡ kind_of family }
-{
-    match family {
-        Family::Elev | Family::Low | Family::High => Kind::Elevation,
-        Family::Mat => Kind::Material,
-    }
-}
+use cdb_grid::{Tile, units};
+use cdb_source::{Source, SourceHead, kind_of};
 
 /// The number of a tile's row among all rows of its height, from the south pole.
 fn row_number(tile: &Tile) -> u64
@@ -62,4 +52,16 @@ pub fn reaches(head: &SourceHead, tile: &Tile) -> bool
         return false;
     }
     has_row(head, tile) && has_column(head, tile)
+}
+
+/// Whether some source of a list reaches a tile.
+pub fn reached(sources: &[Source], tile: &Tile) -> bool
+    ensures { IsTrue result ↔ Reached (map (λ source. source.head) sources.now) tile.now }
+{
+    for source in sources {
+        if reaches(&source.head, tile) {
+            return true;
+        }
+    }
+    false
 }

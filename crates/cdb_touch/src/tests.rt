@@ -1,6 +1,7 @@
 use super::*;
-use cdb_grid::{Arc, Family, Level, Tile};
-use cdb_source::{Kind, SourceHead};
+use cdb_grid::{Arc, Family, Level, Tile, tile_at};
+use cdb_source::{Kind, Source, SourceHead, SourceMaker};
+use std::alloc::Global;
 use std::process::Abort;
 use std::test::Fail;
 
@@ -150,5 +151,34 @@ fn several_sources(rt: HostRuntime) -> Result<(), Fail> {
     let globe = head(&rt, whole_globe(23));
     assert_eq!(rt; load(&[globe, globe]), 26_143_395_836_888_422_800);
     assert_eq!(rt; load(&[]), 0);
+    Ok(())
+}
+
+/// A source of one post, 500 metres.
+fn one_post(alloc: Global, head: SourceHead) -> Result<Source, Fail> {
+    if head.rows != 1 || head.cols != 1 {
+        return Err("one post".into());
+    }
+    let mut maker = SourceMaker::new(alloc, head)?;
+    maker.push_row(&[500], -32768)?;
+    Ok(maker.finish())
+}
+
+#[test]
+fn reached_by_one_of_several(rt: HostRuntime) -> Result<(), Fail> {
+    let west = head(&rt, elevations(-10, 46, 7, (1, 1), 1, 1));
+    let east = head(&rt, elevations(-10, 46, 9, (1, 1), 1, 1));
+    let sources = [one_post(rt.alloc(), west)?, one_post(rt.alloc(), east)?];
+    let level = Level::new(-10).ok_or("level")?;
+    for (lon, family, is_reached) in [
+        (7, Family::Elev, true),
+        (8, Family::Elev, false),
+        (9, Family::High, true),
+        (9, Family::Mat, false),
+    ] {
+        let tile = tile_at(family, level, arc(&rt, (46, 1)), arc(&rt, (lon, 1))).ok_or("tile")?;
+        assert_eq!(rt; reached(&sources, &tile), is_reached);
+        assert_eq!(rt; reached(&[], &tile), false);
+    }
     Ok(())
 }

@@ -27,12 +27,11 @@ returns-clause-each c n lt =
     let fill : 360 / w * tiles_of h * (c.width_of_row-width.result * c.extent.result) ≡ 360 * degree =
     ap (λ m. 360 / w * tiles_of h * m) wide ∙ columns-fill w h c.requires.most (width-dvd c.args.row) in
     place_same c.args.head.now.kind (c.width_of_row-width.result * c.step.result) (w * step k)
-    c.east_of-west.result (corner_of c.args.head.now).east
-    (c.east_of-west.result + c.span.result) ((corner_of c.args.head.now).east + box_width c.args.head.now)
+    c.west.result (corner_of c.args.head.now).east
+    c.east.result ((corner_of c.args.head.now).east + box_width c.args.head.now)
     (c.width_of_row-width.result * c.extent.result) (side_of h * (w * step h)) n _
     (wide_by c.width_of_row-width.result w c.step.result (step k) (w * step k) c.width_of_row-width.ensures.value (c.step.ensures.value ∙ ap step c.height.ensures.value) refl)
-    c.east_of-west.ensures.value
-    (ap (λ m. m + c.span.result) c.east_of-west.ensures.value ∙ ap (λ m. (corner_of c.args.head.now).east + m) c.span.ensures)
+    c.west.ensures.value c.east.ensures.value
     wide
     (c.with_places.ensures.each n (part_inside n (360 / w * tiles_of h) (c.width_of_row-width.result * c.extent.result) (360 * degree) lt fill))
 

@@ -19,11 +19,10 @@ returns-clause-each c n lt =
     let fill : 180 * tiles_of h * c.extent.result ≡ 180 * degree =
     ap (λ m. 180 * tiles_of h * m) c.extent.ensures.value ∙ rows-fill h c.requires.most in
     place_same c.args.head.now.kind c.step-step.result (step (source_height c.args.head.now))
-    c.north_of-south.result (corner_of c.args.head.now).north
-    (c.north_of-south.result + c.span.result) ((corner_of c.args.head.now).north + box_height c.args.head.now)
+    c.south.result (corner_of c.args.head.now).north
+    c.north.result ((corner_of c.args.head.now).north + box_height c.args.head.now)
     c.extent.result (side_of h * step h) n _
-    (c.step-step.ensures.value ∙ ap step c.height.ensures.value) c.north_of-south.ensures.value
-    (ap (λ m. m + c.span.result) c.north_of-south.ensures.value ∙ ap (λ m. (corner_of c.args.head.now).north + m) c.span.ensures)
+    (c.step-step.ensures.value ∙ ap step c.height.ensures.value) c.south.ensures.value c.north.ensures.value
     c.extent.ensures.value
     (c.with_places.ensures.each n (part_inside n (180 * tiles_of h) c.extent.result (180 * degree) lt fill))
 
