@@ -1,1 +1,9 @@
 pub mod MapLaws
+pub mod OneLists
+pub mod OneSource
+pub mod ManySteps
+pub mod AnswerLaws
+pub mod Changes
+pub mod BegunLaws
+pub mod HaltLaws
+pub mod SessionLaws

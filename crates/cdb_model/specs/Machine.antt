@@ -1,20 +1,19 @@
 -- The machine that the program is: its state, and which answer and which next state an event may have. Of several
 -- refusals that apply, the first in the stated order is the answer.
-use Rattle.std.specs.Prelude.{◌≡◌, ◌≢◌, ℕ, ◌+◌, ◌≤◌, ◌<◌, List, [], ◌∷◌, ◌++◌, length, take, map, filter, not, nat_eq, Option, Some, None, IsSome}
-use Rattle.std.specs.List.{find, flat_map}
+use Rattle.std.specs.Prelude.{◌≡◌, ◌≢◌, ℕ, ◌+◌, ◌≤◌, ◌<◌, List, [], ◌∷◌, ◌++◌, length, Option, Some, None, IsSome}
 use Rattle.cdb_grid.specs.declared.tile.Tile.{Tile}
 use Rattle.cdb_source.specs.Reached.{Reached, IsTouched, IsLoad}
-use Rattle.cdb_source.specs.declared.head.SourceHead.{SourceHead}
 use Rattle.cdb_source.specs.declared.source.Source.{Source}
-use Rattle.cdb_tiff_base.specs.Causes.{cause_of}
 use Rattle.cdb_tiff_base.specs.Numbers.{Bytes}
 use Rattle.cdb_tiff_base.specs.declared.tiff_cause.TiffCause.{TiffCause}
-use Rattle.cdb_tiff_base.specs.declared.tiff_error.TiffError.{TiffError}
 use Rattle.cdb_model.specs.Grammar.{InlineSource, FileSource}
 use Rattle.cdb_model.specs.Maps.{Content}
 use Rattle.cdb_model.specs.Spelled.{SpellsSource, SpellsLoaded}
 use Rattle.cdb_model.specs.TileFile.{tile_bytes}
 use Rattle.cdb_model.specs.declared.session.Session.{Session}
+pub use Rattle.cdb_model.specs.ImageFiles.{SpellsNone, HasImage, IsBig, IsBad, IsUnfit}
+pub use Rattle.cdb_model.specs.Publications.{sources_of, sources_up_to, heads_of}
+pub use Rattle.cdb_model.specs.Sessions.{session_of, without}
 
 -- ---- the state
 
@@ -38,21 +37,6 @@ pub record Held : Type 0 where
 -- no publication, nothing pending, nothing open
 abbrev pub start : State
 start = record { list = []; pending = []; going = None; sessions = []; opened = 0 }
-
--- the sources of publications, and of the first of them up to a version, oldest first
-abbrev pub sources_of : List (List Source) → List Source
-sources_of list = flat_map (λ sources. sources) list
-
-abbrev pub sources_up_to : ℕ → List (List Source) → List Source
-sources_up_to version list = sources_of (take version list)
-
--- the heads of sources, in their order
-abbrev pub heads_of : List Source → List SourceHead
-heads_of ss = map (λ s. s.head) ss
-
--- the open session of a number
-abbrev pub session_of : ℕ → List Session → Option Session
-session_of id sessions = find (λ x. nat_eq x.id id) sessions
 
 -- ---- events and answers
 
@@ -123,10 +107,6 @@ pub record Gains (Spelled : Source → Type 0) (old : State) (number : ℕ) (new
   pub number_is : number ≡ length old.pending + 1
   pub next : new ≡ record old { pending = old.pending ++ source ∷ [] }
 
--- no source is spelled
-abbrev pub SpellsNone : (Source → Type 0) → Type 0
-SpellsNone Spelled = (s : Source) → Spelled s → ⊥
-
 -- a source whose posts stand in the line: which answers it may have, and the next state
 abbrev pub Gives : State → InlineSource → Answer → State → Type 0
 Gives old w (source n) new = Gains (SpellsSource w) old n new
@@ -136,37 +116,11 @@ Gives old w range new = IsReady old × SpellsNone (SpellsSource w) × (new ≡ o
 Gives old w memory new = (old.going ≡ None) × (new ≡ old)
 Gives old w _ new = ⊥
 
--- the bytes of a file that is there, has at most 67,108,864 bytes, and is a TIFF file that is read
-pub record HasImage (content : Content) (bytes : Bytes) : Type 0 where
-  pub there : content ≡ Some bytes
-  pub small : length bytes ≤ 67108864
-  pub sound : cause_of bytes ≡ None
-
--- a file that is there and has more bytes
-abbrev pub IsBig : Content → Type 0
-IsBig None = ⊥
-IsBig (Some bytes) = 67108864 < length bytes
-
--- a file that is there, isn't big, and for this cause isn't read
-pub record IsBad (content : Content) (cause : TiffCause) : Type 0 where
-  pub bytes : Bytes
-  pub there : content ≡ Some bytes
-  pub small : length bytes ≤ 67108864
-  pub error : TiffError
-  pub caused : cause_of bytes ≡ Some error
-  pub cause_is : error.cause ≡ cause
-
 -- a file that is read, of which a source of the words is made
 pub record Loaded (w : FileSource) (content : Content) (old : State) (number : ℕ) (new : State) : Type 0 where
   pub bytes : Bytes
   pub image : HasImage content bytes
   pub gains : Gains (SpellsLoaded w bytes) old number new
-
--- a file that is read, of which no source of the words is made
-pub record IsUnfit (w : FileSource) (content : Content) : Type 0 where
-  pub bytes : Bytes
-  pub image : HasImage content bytes
-  pub none : SpellsNone (SpellsLoaded w bytes)
 
 -- the same of a source whose posts a file holds
 abbrev pub Loads : State → FileSource → Content → Answer → State → Type 0
@@ -265,10 +219,6 @@ Asks old id t missing new = IsMissing old id t × (new ≡ old)
 Asks old id t unknown new = (session_of id old.sessions ≡ None) × (new ≡ old)
 Asks old id t memory new = IsSome (session_of id old.sessions) × (new ≡ old)
 Asks old id t _ new = ⊥
-
--- the sessions but for those of a number
-abbrev pub without : ℕ → List Session → List Session
-without id sessions = filter (λ x. not (nat_eq x.id id)) sessions
 
 -- a session is to be closed
 abbrev pub Disconnects : State → ℕ → Answer → State → Type 0

@@ -1,24 +1,19 @@
 -- Runs of the machine over the lines of an input, and their texts.
-use Rattle.std.specs.Prelude.{◌≡◌, ◌≢◌, ℕ, ◌+◌, List, [], ◌∷◌, ◌++◌, length, codes, decimal}
+use Rattle.std.specs.Prelude.{◌≡◌, ℕ, ◌+◌, List, [], ◌∷◌, ◌++◌, length, codes}
 use Rattle.std.specs.List.{flat_map}
 use Rattle.cdb_source.specs.declared.kind.Kind.TheVariants.{Elevation}
 use Rattle.cdb_tiff_base.specs.Words.{word_of}
 use Rattle.cdb_model.specs.Text.{Text, ended}
 use Rattle.cdb_model.specs.Maps.{Content}
-use Rattle.cdb_model.specs.Names.{name, name_fields, FirstWrong}
+use Rattle.cdb_model.specs.Names.{name}
 use Rattle.cdb_model.specs.Grammar as grammar
 use Rattle.cdb_model.specs.Grammar.{Sentence}
 use Rattle.cdb_model.specs.Commands as said
 use Rattle.cdb_model.specs.Commands.{Command, line_command, IsUnbuilt}
 use Rattle.cdb_model.specs.Machine as machine
 use Rattle.cdb_model.specs.Machine.{State, Event, Answer, Step}
-
--- a request for a tile whose file name isn't one: the name's first wrong field begins at this place
-pub record Misnames (command : Command) (place : ℕ) : Type 0 where
-  pub id : ℕ
-  pub file : Text
-  pub says : command ≡ said.said (grammar.tile id file)
-  pub wrong : FirstWrong name_fields file place
+pub use Rattle.cdb_model.specs.Lines.{HasNoFeed, HaveNoFeed, Cut, HaveNoQuit, Misnames}
+pub use Rattle.cdb_model.specs.Text.{numbered}
 
 -- a sentence that isn't answered yet
 pub record SaysUnbuilt (command : Command) : Type 0 where
@@ -56,24 +51,6 @@ Run Has old (command ∷ commands) [] new = ⊥
 
 -- ---- lines
 
-abbrev pub HasNoFeed : Text → Type 0
-HasNoFeed [] = Unit {0}
-HasNoFeed (c ∷ rest) = (c ≢ 10) × HasNoFeed rest
-
-abbrev pub HaveNoFeed : List Text → Type 0
-HaveNoFeed [] = Unit {0}
-HaveNoFeed (line ∷ lines) = HasNoFeed line × HaveNoFeed lines
-
--- bytes cut at their line feeds: the whole lines, and what stands after the last line feed
-pub record Cut (bytes : Text) (lines : List Text) (rest : Text) : Type 0 where
-  pub joined : bytes ≡ flat_map ended lines ++ rest
-  pub whole : HaveNoFeed lines
-  pub open_end : HasNoFeed rest
-
-abbrev pub HaveNoQuit : List Text → Type 0
-HaveNoQuit [] = Unit {0}
-HaveNoQuit (line ∷ lines) = (line_command line ≢ said.quit) × HaveNoQuit lines
-
 -- the commands of lines: blank lines are passed over, and `quit` ends them
 abbrev pub before : Command → List Command → List Command
 before (said.said grammar.blank) later = later
@@ -85,11 +62,6 @@ commands_of [] = []
 commands_of (line ∷ lines) = before (line_command line) (commands_of lines)
 
 -- ---- texts
-
--- a word and its numbers, in decimal, after single spaces
-abbrev pub numbered : Text → List ℕ → Text
-numbered text [] = text
-numbered text (n ∷ ns) = numbered (text ++ 32 ∷ decimal n) ns
 
 unfoldable pub text_of : Answer → Text
 text_of (machine.source n) = ended (numbered (codes "source") (n ∷ []))

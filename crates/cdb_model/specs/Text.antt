@@ -1,5 +1,5 @@
 -- Texts: lists of bytes.
-use Rattle.std.specs.Prelude.{ℕ, zero, suc, List, [], ◌∷◌, ◌++◌}
+use Rattle.std.specs.Prelude.{ℕ, zero, suc, List, [], ◌∷◌, ◌++◌, decimal}
 
 abbrev pub Text : Type 0
 Text = List ℕ
@@ -12,3 +12,8 @@ ended line = line ++ 10 ∷ []
 abbrev pub last_first : {A : Type 0} → ℕ → (ℕ → List A) → List A
 last_first zero piece = []
 last_first (suc n) piece = piece n ++ last_first n piece
+
+-- a word and its numbers, in decimal, after single spaces
+abbrev pub numbered : Text → List ℕ → Text
+numbered text [] = text
+numbered text (n ∷ ns) = numbered (text ++ 32 ∷ decimal n) ns
