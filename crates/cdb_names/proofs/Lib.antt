@@ -3,6 +3,7 @@ pub mod DigitLaws
 pub mod NumberLaws
 pub mod FieldLaws
 pub mod FolderLaws
+pub mod Settled
 pub mod NameLaws
 pub mod SameTile
 pub mod NameResults
@@ -10,3 +11,4 @@ pub mod PathFieldLaws
 pub mod PathLaws
 pub mod PathResults
 pub mod VersionLaws
+pub mod LengthLaws

@@ -9,12 +9,13 @@ use Rattle.cdb_grid.specs.Units.{height_of}
 use Rattle.cdb_grid.specs.declared.family.Family.{Family}
 use Rattle.cdb_grid.specs.declared.tile.Tile.{Tile}
 use Rattle.cdb_model.specs.declared.name_error.NameError.{NameError}
-use Rattle.cdb_model.specs.Names.{Text, lat_text, lon_text, dataset_text, level_text, up_text, right_text, name_fields, name, spell, begins_with_digit, BeginsWith, StopsBefore}
+use Rattle.cdb_model.specs.Names.{Text, lat_text, lon_text, dataset_text, level_text, up_text, right_text, name_fields, name, spell, begins_with_digit, BeginsWith}
 use Rattle.cdb_names.specs.declared.folder.Folder.{Folder}
 use Rattle.cdb_names.specs.Fields.{lat_at, lon_at, family_at, level_at, across, numbered_at}
 use Rattle.cdb_names.specs.Reading.{◌>>=◌, wrong_at, field, has_lat, has_lon, has_dataset, has_level, has_up, kept, lat_in, lon_in, family_in, level_in, up_in, name_at, Spelled, spelled}
 use Rattle.cdb_names.proofs.Tools.{some_if, some_is, pair_is, not_true, chosen}
 use Rattle.cdb_names.proofs.FieldLaws.{IsLon, IsLevel, lat_takes, lat_again, lon_takes, lon_again, family_takes, family_again, level_takes, level_again, numbered_takes, numbered_again}
+use Rattle.cdb_names.proofs.Settled.{Settles}
 use Rattle.cdb_names.proofs.FolderLaws.{InFolder, IsSound, some_tile, with_lat, with_lon, with_family, with_level, with_up, with_right}
 
 -- ---- values that pass a test
@@ -64,7 +65,7 @@ pub record Stage (folder : Option Folder) (text : Text) (count : ℕ) (Shares : 
   pub only : (x : InFolder folder) (after : Text) → BeginsWith (fields_in x) text count after → Shares x.tile × (after ≡ rest)
 
 abbrev pub Stops : Option Folder → Text → Text → Type 0
-Stops folder text rest = StopsBefore (fields_in {folder = folder}) text rest
+Stops folder text rest = Settles (fields_in {folder = folder}) text rest
 
 -- what the value of a stage shares
 shares : {folder : Option Folder} {text : Text} {count : ℕ} {Shares : Tile → Type 0} {rest : Text} → (s : Stage folder text count Shares rest) → Shares s.value.tile
@@ -72,7 +73,10 @@ shares {folder} {text} {count} {Shares} {rest} s = (s.only s.value rest s.begins
 
 -- reading stops where no tile in the folder has the next field
 stops : {folder : Option Folder} {text : Text} {count : ℕ} {Shares : Tile → Type 0} {rest : Text} → Stage folder text count Shares rest → ((x : InFolder folder) (after : Text) → BeginsWith (fields_in x) text (suc count) after → ⊥) → Stops folder text rest
-stops {folder} {text} {count} {Shares} {rest} s none = record { value = s.value; count = count; begins = s.begins; no_more = none }
+stops {folder} {text} {count} {Shares} {rest} s none = record {
+  stops = record { value = s.value; count = count; begins = s.begins; no_more = none };
+  one = λ x after b. (s.only x after b).1;
+}
 
 abbrev pub Shares0 : Tile → Type 0
 Shares0 t = Unit {0}

@@ -6,7 +6,9 @@ use Rattle.cdb_model.specs.declared.name_error.NameError.{NameError}
 use Rattle.cdb_model.specs.Names.{Text, lat_text, lon_text, dataset_text, level_text, up_text, right_text, name_fields, name, spell, FirstWrong}
 use Rattle.cdb_names.specs.Reading.{name_at, Spelled, spelled, Gives}
 use Rattle.cdb_names.proofs.FolderLaws.{InFolder}
-use Rattle.cdb_names.proofs.NameLaws.{name_says, name_again}
+use Rattle.cdb_names.specs.Places.{OneWrongPlaceOfNames, NamesHaveNoWrongPlace}
+use Rattle.cdb_names.proofs.Settled.{AreFields, Settles, one_rest, never_stops}
+use Rattle.cdb_names.proofs.NameLaws.{fields_in, name_says, name_again}
 use Rattle.cdb_names.proofs.SameTile.{same_tile}
 
 -- the name of the numbers
@@ -48,16 +50,53 @@ name_only text (Err wrong) e t is =
     let k : ◌≡◌ {A = Result Spelled NameError} (Err wrong) (Ok (spelled t)) = sym e ∙ again in
     absurd cc
 
-pub name_wrong : (text : Text) (r : Result Tile NameError) → Gives spelled r (name_at None text text) → IfErr r (λ e. FirstWrong name_fields text e.place)
+-- where a text stops among the tiles in no folder, it stops among all
+anywhere_settles : (text rest : Text) → Settles (fields_in {folder = None}) text rest → Settles name_fields text rest
 unfolding anywhere
+anywhere_settles text rest s = record {
+  stops = record { value = s.stops.value.tile; count = s.stops.count; begins = s.stops.begins; no_more = λ other after b. s.stops.no_more (anywhere other) after b };
+  one = λ x after b. s.one (anywhere x) after b;
+}
+
+pub name_wrong : (text : Text) (r : Result Tile NameError) → Gives spelled r (name_at None text text) → IfErr r (λ e. FirstWrong name_fields text e.place)
 name_wrong text (Ok t) e = tt
 name_wrong text (Err wrong) e =
     let s = name_says None tt text text (Err wrong) e in
-    let stops = s.1 in
-    let begins = stops.begins in
+    let stops = (anywhere_settles text s.0 s.1).stops in
     let place : length text - length s.0 ≡ wrong.place = ap (λ (x : NameError). x.place) s.2 in
     record {
       rest = s.0;
-      stops = record { value = stops.value.tile; count = stops.count; begins = begins; no_more = λ other after b. stops.no_more (anywhere other) after b };
-      place_is = ap (λ (k : ℕ). k + length s.0) (sym place) ∙ begins_at text s.0 (take stops.count (name_fields stops.value.tile)) begins.parts;
+      stops = stops;
+      place_is = ap (λ (k : ℕ). k + length s.0) (sym place) ∙ begins_at text s.0 (take stops.count (name_fields stops.value)) stops.begins.parts;
     }
+
+-- ---- the first wrong field is one, and of a name none is wrong
+
+pub are_name_fields : (t : Tile) → AreFields (name_fields t)
+are_name_fields t =
+    ((λ rest. refl), ((λ rest. refl), ((λ rest. refl), ((λ rest. refl), ((λ rest. refl), ((λ rest. refl), ((λ rest. refl), tt)))))))
+
+pub one_wrong_in_name : OneWrongPlaceOfNames
+one_wrong_in_name text p q a b = by (name_at None text text) refl
+  where
+    by : (r : Result Spelled NameError) → name_at None text text ≡ r → p ≡ q
+    by (Ok s) e =
+        let says = name_says None tt text text (Ok s) e in
+        absurd (never_stops name_fields are_name_fields text a.rest says.0.tile says.2 a.stops)
+    by (Err wrong) e =
+        let says = name_says None tt text text (Err wrong) e in
+        let s = anywhere_settles text says.0 says.1 in
+        let first = ap length (one_rest name_fields are_name_fields text says.0 a.rest s a.stops) in
+        let second = ap length (one_rest name_fields are_name_fields text says.0 b.rest s b.stops) in
+        omega (arith, first, second, a.place_is, b.place_is)
+
+pub none_in_name : NamesHaveNoWrongPlace
+none_in_name t place a = never_stops name_fields are_name_fields (name t) a.rest t refl a.stops
+
+-- tiles of one name are one
+pub one_tile : (t u : Tile) → name t ≡ name u → t ≡ u
+unfolding anywhere
+one_tile t u is = tile_is (name_only (name t) (Ok t) (name_again None tt (name t) (anywhere t)) u is)
+  where
+    tile_is : ◌≡◌ {A = Result Tile NameError} (Ok t) (Ok u) → t ≡ u
+    tile_is e = cc

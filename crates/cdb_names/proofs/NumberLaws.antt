@@ -105,18 +105,6 @@ number_again limit n rest lt small e =
     let k = digits_len-append (decimal n) rest ds e in
     rw (k, take_at (decimal n) rest (length (decimal n)) refl, drop_at (decimal n) rest (length (decimal n)) refl, number_again_value limit n lt small) refl
 
--- a level has at most 2 ^ 23 tiles along a side
-pub power_small : (z : ℤ) → negsuc 9 ≤ℤ z → z ≤ℤ pos 23 → 1 * 2 ^ nat_abs z % 4294967296 ≤ 10000000
-power_small z low high =
-    let bound : nat_abs z ≤ 23 = by z low high in
-    let some : 0 < 2 = omega arith in
-    let e : 2 ^ nat_abs z ≤ 2 ^ 23 = pow-le-pow_right {n = 2} some bound in
-    omega (arith, e)
-  where
-    by : (z : ℤ) → negsuc 9 ≤ℤ z → z ≤ℤ pos 23 → nat_abs z ≤ 23
-    by (pos n) low high = omega (arith, ints)
-    by (negsuc n) low high = omega (arith, ints)
-
 -- a row and a column of a tile have at most seven digits
 across_few : (z : ℤ) → z ≤ℤ pos 23 → 2 ^ (24 - height_of z) ≤ 2 ^ 23
 across_few z high =

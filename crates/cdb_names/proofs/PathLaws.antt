@@ -3,13 +3,14 @@ use Rattle.std.proofs.Common.{◌≡◌, ℕ, suc, ◌<◌, ◌≤◌, ◌^◌, 
 use Rattle.std.specs.Prelude.{codes}
 use Rattle.std.specs.Fmt.{decimal}
 use Rattle.cdb_grid.specs.declared.tile.Tile.{Tile}
-use Rattle.cdb_model.specs.Names.{Text, VersionTile, lat_text, lon_text, version_folder, dataset_folder, level_folder, path_fields, spell, BeginsWith, StopsBefore}
+use Rattle.cdb_model.specs.Names.{Text, VersionTile, lat_text, lon_text, version_folder, dataset_folder, level_folder, path_fields, spell, BeginsWith}
 use Rattle.cdb_names.specs.declared.folder.DatasetFolder.{DatasetFolder}
 use Rattle.cdb_names.specs.Fields.{after, across, version_folder_at, lat_folder_at, lon_folder_at, dataset_folder_at, level_folder_at, up_folder_at}
 use Rattle.cdb_names.specs.Reading.{dataset_folder_of}
 use Rattle.cdb_names.proofs.Tools.{some_is}
 use Rattle.cdb_names.proofs.FieldLaws.{IsLon, IsLevel, after_takes, after_again}
 use Rattle.cdb_names.proofs.FolderLaws.{some_tile, some_family, with_lat, with_lon, with_family, with_level, with_up, across_coarse}
+use Rattle.cdb_names.proofs.Settled.{Settles}
 use Rattle.cdb_names.proofs.NameLaws.{same, none_some, across_small}
 use Rattle.cdb_names.proofs.NameResults.{anywhere}
 use Rattle.cdb_names.proofs.PathFieldLaws.{version_folder_takes, version_folder_again, lat_folder_takes, lat_folder_again, lon_folder_takes, lon_folder_again, dataset_folder_takes, dataset_folder_again, level_for_folder, level_folder_takes, level_folder_again, up_folder_takes, up_folder_again}
@@ -21,13 +22,16 @@ pub record Stage (text : Text) (count : ℕ) (Shares : VersionTile → Type 0) (
   pub only : (x : VersionTile) (after : Text) → BeginsWith (path_fields x) text count after → Shares x × (after ≡ rest)
 
 abbrev pub Stops : Text → Text → Type 0
-Stops text rest = StopsBefore path_fields text rest
+Stops text rest = Settles path_fields text rest
 
 pub shares : {text : Text} {count : ℕ} {Shares : VersionTile → Type 0} {rest : Text} → (s : Stage text count Shares rest) → Shares s.value
 shares {text} {count} {Shares} {rest} s = (s.only s.value rest s.begins).0
 
 stops : {text : Text} {count : ℕ} {Shares : VersionTile → Type 0} {rest : Text} → Stage text count Shares rest → ((x : VersionTile) (after : Text) → BeginsWith (path_fields x) text (suc count) after → ⊥) → Stops text rest
-stops {text} {count} {Shares} {rest} s none = record { value = s.value; count = count; begins = s.begins; no_more = none }
+stops {text} {count} {Shares} {rest} s none = record {
+  stops = record { value = s.value; count = count; begins = s.begins; no_more = none };
+  one = λ x after b. (s.only x after b).1;
+}
 
 -- the same version with another tile
 abbrev with_tile : VersionTile → Tile → VersionTile

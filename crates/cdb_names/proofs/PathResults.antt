@@ -9,7 +9,7 @@ use Rattle.cdb_grid.specs.declared.family.Family.{Family}
 use Rattle.cdb_grid.specs.declared.family.Family.TheVariants.{Elev, Low, High, Mat}
 use Rattle.cdb_grid.specs.declared.tile.Tile.{Tile}
 use Rattle.cdb_model.specs.declared.name_error.NameError.{NameError}
-use Rattle.cdb_model.specs.Names.{Text, VersionTile, two, lat_text, lon_text, version_folder, dataset_folder, level_folder, name, name_fields, path_fields, path, folders, with_slashes, spell, BeginsWith, StopsBefore, FirstWrong}
+use Rattle.cdb_model.specs.Names.{Text, VersionTile, two, lat_text, lon_text, version_folder, dataset_folder, level_folder, name, name_fields, path_fields, path, folders, with_slashes, spell, BeginsWith, FirstWrong}
 use Rattle.cdb_names.specs.declared.folder.Folder.{Folder}
 use Rattle.cdb_names.specs.declared.folder.DatasetFolder.{DatasetFolder}
 use Rattle.cdb_names.specs.declared.folder.DatasetFolder.TheVariants.{Elevation, MinMaxElevation, RmTexture}
@@ -20,7 +20,9 @@ use Rattle.cdb_names.specs.Reading.{◌>>=◌, wrong_at, has_lat, has_lon, has_d
 use Rattle.cdb_names.proofs.FieldLaws.{IsLevel, after_again}
 use Rattle.cdb_names.proofs.FolderLaws.{InFolder, IsFolder, some_level}
 use Rattle.cdb_names.proofs.NameLaws.{step, fields_in, name_says, name_again}
-use Rattle.cdb_names.proofs.NameResults.{begins_at}
+use Rattle.cdb_names.specs.Places.{OneWrongPlaceOfPaths, PathsHaveNoWrongPlace}
+use Rattle.cdb_names.proofs.Settled.{AreFields, Settles, one_rest, never_stops}
+use Rattle.cdb_names.proofs.NameResults.{are_name_fields, begins_at}
 use Rattle.cdb_names.proofs.PathFieldLaws.{level_for_folder, dataset_folder_again}
 use Rattle.cdb_names.proofs.PathLaws.{Stage, Stops, shares, Shares7, across_same, version_reads, lat_reads, lon_reads, level_reads, up_reads, stop1, stop2, stop3, stop4, stop5, stop6, stop7, stage1, stage2, stage3, stage4, stage5, stage6, stage7}
 use Rattle.cdb_names.proofs.SameTile.{same_tile}
@@ -224,15 +226,20 @@ module _ (text : Text) (version : ℕ) (end : Text) (v : VersionTile) (version_i
   of_tile : (x : InFolder (Some (folder_of v.tile))) → text ≡ spell (take 7 (path_fields (version_tile v x.tile))) end
   of_tile x = begins.parts ∙ ap (λ (fs : List Text). spell (with_slashes fs []) end) (same_folders v.version v.tile x)
 
-  lifted : (rest : Text) → StopsBefore (fields_in {folder = Some (folder_of v.tile)}) end rest → Stops text rest
+  lifted : (rest : Text) → Settles (fields_in {folder = Some (folder_of v.tile)}) end rest → Stops text rest
   unfolding in_folder
   lifted rest s = record {
-    value = version_tile v s.value.tile;
-    count = suc (suc (suc (suc (suc (suc (suc s.count))))));
-    begins = record { parts = of_tile s.value ∙ ap (λ (y : Text). spell (take 7 (path_fields (version_tile v s.value.tile))) y) s.begins.parts; follows = s.begins.follows };
-    no_more = λ other after b.
-        let a = only other (spell (take (suc s.count) (name_fields other.tile)) after) (record { parts = b.parts; follows = refl }) in
-        s.no_more (in_folder other.tile (folder_of v.tile) a.1) after (record { parts = sym a.2; follows = b.follows });
+    stops = record {
+      value = version_tile v s.stops.value.tile;
+      count = suc (suc (suc (suc (suc (suc (suc s.stops.count))))));
+      begins = record { parts = of_tile s.stops.value ∙ ap (λ (y : Text). spell (take 7 (path_fields (version_tile v s.stops.value.tile))) y) s.stops.begins.parts; follows = s.stops.begins.follows };
+      no_more = λ other after b.
+          let a = only other (spell (take (suc s.stops.count) (name_fields other.tile)) after) (record { parts = b.parts; follows = refl }) in
+          s.stops.no_more (in_folder other.tile (folder_of v.tile) a.1) after (record { parts = sym a.2; follows = b.follows });
+    };
+    one = λ other after b.
+        let a = only other (spell (take s.stops.count (name_fields other.tile)) after) (record { parts = b.parts; follows = refl }) in
+        s.one (in_folder other.tile (folder_of v.tile) a.1) after (record { parts = sym a.2; follows = b.follows });
   }
 
   end_says : (r : Result Spelled NameError) → name_at (Some (folder_of v.tile)) text end ≡ r → Says text (r >>= λ s. Ok (version, s))
@@ -318,9 +325,32 @@ pub path_wrong : (text : Text) (r : Result (ℕ × Tile) NameError) → Gives sp
 path_wrong text (Ok p) e = tt
 path_wrong text (Err w) e =
     let s = path_says text (Err w) e in
+    let stops = s.1.stops in
     let place : length text - length s.0 ≡ w.place = ap (λ (x : NameError). x.place) s.2 in
     record {
       rest = s.0;
-      stops = s.1;
-      place_is = ap (λ (k : ℕ). k + length s.0) (sym place) ∙ begins_at text s.0 (take s.1.count (path_fields s.1.value)) s.1.begins.parts;
+      stops = stops;
+      place_is = ap (λ (k : ℕ). k + length s.0) (sym place) ∙ begins_at text s.0 (take stops.count (path_fields stops.value)) stops.begins.parts;
     }
+
+-- ---- the first wrong field is one, and of a path none is wrong
+
+are_path_fields : (x : VersionTile) → AreFields (path_fields x)
+are_path_fields x =
+    ((λ rest. refl), ((λ rest. refl), ((λ rest. refl), ((λ rest. refl), ((λ rest. refl), ((λ rest. refl), ((λ rest. refl), are_name_fields x.tile)))))))
+
+pub one_wrong_in_path : OneWrongPlaceOfPaths
+one_wrong_in_path text p q a b = by (path_at text) refl
+  where
+    by : (r : Result (ℕ × Spelled) NameError) → path_at text ≡ r → p ≡ q
+    by (Ok s) e =
+        let says = path_says text (Ok s) e in
+        absurd (never_stops path_fields are_path_fields text a.rest says.0 says.3 a.stops)
+    by (Err wrong) e =
+        let s = path_says text (Err wrong) e in
+        let first = ap length (one_rest path_fields are_path_fields text s.0 a.rest s.1 a.stops) in
+        let second = ap length (one_rest path_fields are_path_fields text s.0 b.rest s.1 b.stops) in
+        omega (arith, first, second, a.place_is, b.place_is)
+
+pub none_in_path : PathsHaveNoWrongPlace
+none_in_path x place a = never_stops path_fields are_path_fields (path x.version x.tile) a.rest x refl a.stops

@@ -1,10 +1,9 @@
 //! The fields of names and paths, each read from the front of a text.
-ghost use Rattle.std.specs.Prelude.{◌≡◌, ◌+◌, ◌*◌, ◌<◌, ◌≤◌, ◌^◌, ℤ, pos, negsuc, ◌≤ℤ◌, neg_ℤ, length, option_map, IfSome};
-ghost use Rattle.cdb_grid.specs.Units.{column_of};
-ghost use Rattle.cdb_names.specs.Fields.{after, lat_of, lat_at, lon_of, is_on_grid, lon_at, family_of, family_at, coarse_at, fine_at, level_at, across, numbered_at};
+ghost use Rattle.std.specs.Prelude.{◌≡◌, ◌+◌, ◌*◌, ◌<◌, ◌≤◌, ◌^◌, ℤ, pos, negsuc, ◌≤ℤ◌, neg_ℤ, length, option_map, IfSome, Some, None, true, if◌then◌else◌};
+ghost use Rattle.cdb_names.specs.Fields.{after, lat_of, lat_at, lon_of, is_on_grid, lon_at, family_of, family_at, coarse_at, fine_at, level_at, numbered_at};
 
 use crate::digits::{read_number, read_three, read_two};
-use cdb_grid::{Family, Geocell, Level, zone_of};
+use cdb_grid::{Family, Geocell, Level};
 
 /// What follows a prefix, where the text begins with it.
 pub fn read_after<'a>(prefix: &[u8], text: &'a [u8]) -> Option<&'a [u8]>
@@ -74,12 +73,18 @@ fn longitude(letter: u8, degrees: u16) -> Option<i16>
     }
 }
 
-fn column(lon: i16) -> u16
+/// The geocell with this corner, whose degrees are on the globe.
+fn geocell(lat: i8, lon: i16) -> Option<Geocell>
+    requires south { negsuc 89 ≤ℤ lat }
+    requires north { lat ≤ℤ pos 89 }
     requires west { negsuc 179 ≤ℤ lon }
     requires east { lon ≤ℤ pos 179 }
-    ensures { result ≡ column_of lon }
+    ensures value { option_map (λ cell. cell.lon) result ≡ (if is_on_grid lat lon then Some lon else None) }
+    ensures grid { IfSome result (λ _. is_on_grid lat lon ≡ true) }
+    ensures west_edge { IfSome result (λ cell. cell.lon ≡ lon) }
+    ensures same { IfSome result (λ cell. cell.lat ≡ lat) }
 {
-    (lon + 180) as u16
+    Geocell::new(lat, lon)
 }
 
 /// The geocell with this south edge, by the longitude of its west edge in degrees.
@@ -94,10 +99,8 @@ pub fn read_longitude(lat: i8, text: &[u8]) -> Option<(Geocell, &[u8])>
     let (letter, rest) = text.split_first()?;
     let (degrees, rest) = read_three(rest)?;
     let lon = longitude(*letter, degrees)?;
-    if column(lon) % u16::from(zone_of(lat).width) != 0 {
-        return None;
-    }
-    Some((Geocell { lat, lon }, rest))
+    let cell = geocell(lat, lon)?;
+    Some((cell, rest))
 }
 
 fn family(text: &[u8]) -> Option<Family>
@@ -167,19 +170,6 @@ pub fn read_level(text: &[u8]) -> Option<(Level, &[u8])>
         read_coarse(text)
     } else {
         read_fine(text)
-    }
-}
-
-/// How many tiles of a level stand along one side of a geocell.
-pub fn tiles_across(level: Level) -> u32
-    ensures across { result ≡ across level.number }
-    ensures some { 0 < result }
-    ensures few { result ≤ 10 ^ 7 }
-{
-    if level.number <= 0 {
-        1
-    } else {
-        1 << level.number
     }
 }
 

@@ -11,7 +11,7 @@ mod reading;
 mod writing;
 
 pub use cdb_model::NameError;
-pub use laws::versions_are_apart;
+pub use laws::{names_are_short, names_have_no_wrong_place, one_wrong_place, versions_are_apart};
 pub use path_reading::read_path;
 pub use paths::{
     folder_of, metadata_folder, record_path, source_path, sources_folder, version_folder,

@@ -6,10 +6,10 @@ ghost use Rattle.cdb_names.specs.Fields.{after, four_at, version_of, version_at,
 ghost use Rattle.cdb_names.specs.Reading.{folders_at, path_at, spelled, Gives};
 
 use crate::digits::read_two;
-use crate::fields::{read_after, read_latitude, read_longitude, read_numbered, tiles_across};
+use crate::fields::{read_after, read_latitude, read_longitude, read_numbered};
 use crate::folder::{DatasetFolder, Folder, level_folder};
 use crate::reading::{field_of, read_name_in};
-use cdb_grid::{Geocell, Level, Tile};
+use cdb_grid::{Geocell, Level, Tile, tiles_across};
 use cdb_model::NameError;
 
 #[tactic(auto, unfolding(crate::specs::Fields::four_at))]

@@ -5,11 +5,9 @@ ghost use Rattle.cdb_model.specs.Names.{Text, name, name_fields, FirstWrong};
 ghost use Rattle.cdb_names.specs.Fields.{across, numbered_at};
 ghost use Rattle.cdb_names.specs.Reading.{field, wrong_at, lat_in, lon_in, family_in, level_in, up_in, name_at, spelled, Gives};
 
-use crate::fields::{
-    read_family, read_latitude, read_level, read_longitude, read_numbered, tiles_across,
-};
+use crate::fields::{read_family, read_latitude, read_level, read_longitude, read_numbered};
 use crate::folder::{Folder, has_family, has_latitude, has_level, has_longitude, has_row};
-use cdb_grid::{Family, Geocell, Level, Tile};
+use cdb_grid::{Family, Geocell, Level, Tile, tiles_across};
 use cdb_model::NameError;
 
 /// The error at the place where the rest of a text begins.
