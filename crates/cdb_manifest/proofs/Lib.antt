@@ -5,3 +5,4 @@ pub mod PlaceLaws
 pub mod DecodingLaws
 pub mod HeadFileLaws
 pub mod PublicationLaws
+pub mod LengthLaws

@@ -2,3 +2,4 @@ pub mod Records
 pub mod Entries
 pub mod Decoding
 pub mod Places
+pub mod Lengths

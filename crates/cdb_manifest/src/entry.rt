@@ -1,14 +1,12 @@
 //! Tiles from their bytes in a record.
-ghost use Rattle.std.specs.Prelude.{◌≡◌, ◌+◌, ◌<◌, ◌≤◌, ℤ, pos, negsuc, ◌≤ℤ◌, take, drop, ◌++◌, List, ℕ, MatchOption};
+ghost use Rattle.std.specs.Prelude.{◌≡◌, ◌+◌, ◌<◌, ◌≤◌, take, drop, ◌++◌, List, ℕ, MatchOption};
 ghost use Rattle.std.specs.Int.{w16, w32, from_be_bytes, cast_signed};
-ghost use Rattle.cdb_grid.specs.Units.{height_of, tiles_of, column_of};
 ghost use Rattle.cdb_grid.specs.declared.family.Family as families;
-ghost use Rattle.cdb_grid.specs.declared.geocell.Geocell as cells;
 ghost use Rattle.cdb_grid.specs.declared.tile.Tile as tiles;
 ghost use Rattle.cdb_model.specs.Records.{family_number, entry_text};
 ghost use Rattle.cdb_manifest.specs.Entries.{HasTile};
 
-use cdb_grid::{Family, Geocell, Level, Tile, zone_of};
+use cdb_grid::{Family, Geocell, Level, Tile, tiles_across};
 
 fn family_of(number: u8) -> Option<Family>
     ensures { MatchOption result ((family : families.Family) → number ≡ family_number family → ⊥) (λ family. number ≡ family_number family) }
@@ -19,38 +17,6 @@ fn family_of(number: u8) -> Option<Family>
         3 => Some(Family::High),
         4 => Some(Family::Mat),
         _ => None,
-    }
-}
-
-fn column(lon: i16) -> u16
-    requires west { negsuc 179 ≤ℤ lon }
-    requires east { lon ≤ℤ pos 179 }
-    ensures { result ≡ column_of lon }
-{
-    (lon + 180) as u16
-}
-
-/// The geocell with this south-west corner, in whole degrees.
-fn geocell_of(lat: i8, lon: i16) -> Option<Geocell>
-    ensures { MatchOption result ((cell : cells.Geocell) → lat ≡ cell.lat → lon ≡ cell.lon → ⊥) (λ cell. (lat ≡ cell.lat) × (lon ≡ cell.lon)) }
-{
-    if lat < -90 || lat > 89 || lon < -180 || lon > 179 {
-        return None;
-    }
-    if column(lon) % u16::from(zone_of(lat).width) != 0 {
-        return None;
-    }
-    Some(Geocell { lat, lon })
-}
-
-/// How many tiles of a level stand along one side of a geocell.
-fn tiles_across(level: Level) -> u32
-    ensures { result ≡ tiles_of (height_of level.number) }
-{
-    if level.number <= 0 {
-        1
-    } else {
-        1 << level.number
     }
 }
 
@@ -76,7 +42,7 @@ pub(crate) fn tile_of(entry: &[u8; 16]) -> Option<Tile>
     }
     let family = family_of(entry[0])?;
     let level = Level::new(i32::from(entry[1].cast_signed()))?;
-    let cell = geocell_of(entry[2].cast_signed(), longitude_in(entry))?;
+    let cell = Geocell::new(entry[2].cast_signed(), longitude_in(entry))?;
     let up = number_in(entry, 8);
     let right = number_in(entry, 12);
     let across = tiles_across(level);

@@ -1,6 +1,7 @@
 //! Laws of records and of what is told of other bytes. Each function does nothing; its contract is
 //! the law.
 ghost use Rattle.cdb_manifest.specs.Records.{PublicationsHaveRecords};
+ghost use Rattle.cdb_manifest.specs.Lengths.{RecordsHaveLength, RecordsAreShort};
 ghost use Rattle.cdb_manifest.specs.Places.{OneBadPlace, RecordsHaveNoBadPlace};
 
 /// A version, the heads of a publication's sources and the tiles that they touch, in the stated
@@ -19,4 +20,10 @@ pub fn one_bad_place()
 /// record.
 pub fn records_have_no_bad_place()
     ensures { RecordsHaveNoBadPlace }
+{}
+
+/// A record has 20 bytes, 44 for each source and 16 for each tile, so at most 264,980.
+pub fn records_have_length()
+    ensures length { RecordsHaveLength }
+    ensures most { RecordsAreShort }
 {}

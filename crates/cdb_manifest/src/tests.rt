@@ -36,6 +36,7 @@ fn the_worked_record(rt: HostRuntime) -> Result<(), Fail> {
     laws::publications_have_records();
     laws::one_bad_place();
     laws::records_have_no_bad_place();
+    laws::records_have_length();
     let Record {
         version: _,
         heads,
