@@ -8,3 +8,10 @@ pub mod JoinedWords
 pub mod NumbersBack
 pub mod WritingBack
 pub mod ReadForms
+pub mod Wordings
+pub mod OneReading
+pub mod OneEvent
+pub mod OptionLexer
+pub mod OptionRules
+pub mod OptionTurns
+pub mod OptionWalk

@@ -17,22 +17,22 @@ use Rattle.cdb_model.specs.Writing.{HasDigits, IsFraction, IsHead, IsInlineSourc
 use Rattle.cdb_commands.proofs.Digits.{own}
 use Rattle.cdb_commands.proofs.JoinedWords.{both}
 
-some_is : {X : Type 0} (x y : X) → Some x ≡ Some y → x ≡ y
+pub some_is : {X : Type 0} (x y : X) → Some x ≡ Some y → x ≡ y
 some_is x y e = cc
 
-then_some : {X Y : Type 0} (o : Option X) (f : X → Option Y) (y : Y) → option_and_then f o ≡ Some y → (x : X) × (o ≡ Some x) × (f x ≡ Some y)
+pub then_some : {X Y : Type 0} (o : Option X) (f : X → Option Y) (y : Y) → option_and_then f o ≡ Some y → (x : X) × (o ≡ Some x) × (f x ≡ Some y)
 then_some None f y e = absurd cc
 then_some (Some x) f y e = (x, refl, e)
 
-map_some : {X Y : Type 0} (o : Option X) (f : X → Y) (y : Y) → option_map f o ≡ Some y → (x : X) × (o ≡ Some x) × (f x ≡ y)
+pub map_some : {X Y : Type 0} (o : Option X) (f : X → Y) (y : Y) → option_map f o ≡ Some y → (x : X) × (o ≡ Some x) × (f x ≡ y)
 map_some None f y e = absurd cc
 map_some (Some x) f y e = (x, refl, some_is (f x) y e)
 
-then_if : {X : Type 0} (b : Bool) (o : Option X) (x : X) → cond b o None ≡ Some x → (b ≡ true) × (o ≡ Some x)
+pub then_if : {X : Type 0} (b : Bool) (o : Option X) (x : X) → cond b o None ≡ Some x → (b ≡ true) × (o ≡ Some x)
 then_if true o x e = (refl, e)
 then_if false o x e = absurd cc
 
-if_some : {X : Type 0} (b : Bool) (x y : X) → cond {A = Option X} b (Some x) None ≡ Some y → (b ≡ true) × (x ≡ y)
+pub if_some : {X : Type 0} (b : Bool) (x y : X) → cond {A = Option X} b (Some x) None ≡ Some y → (b ≡ true) × (x ≡ y)
 if_some true x y e = (refl, cc)
 if_some false x y e = absurd cc
 

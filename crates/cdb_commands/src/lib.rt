@@ -1,11 +1,16 @@
-//! The lines of the script: what a line says, read from its bytes.
+//! The lines of the script and the option words: what they say, read from their bytes.
 #![tactic(auto)]
 
+mod command;
 mod fields;
 mod fraction;
+mod given;
 mod head;
 mod laws;
 mod numbers;
+#[cfg(test)]
+mod option_tests;
+mod options;
 mod parsed;
 mod path;
 mod posts;
@@ -14,7 +19,10 @@ mod sources;
 #[cfg(test)]
 mod tests;
 mod words;
+mod words_error;
 
 pub use cdb_model::{InlineWords, Line, LineError, LoadWords};
-pub use laws::writing_reads_back;
+pub use laws::{one_reading, reading_is_worded, writing_reads_back};
+pub use options::{Mode, Options, read_words};
 pub use reading::read_line;
+pub use words_error::WordsError;

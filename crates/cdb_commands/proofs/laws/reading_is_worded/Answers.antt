@@ -1,0 +1,5 @@
+use Rattle.cdb_commands.proofs.Wordings.{line_worded}
+use Rattle.cdb_commands.proofs.laws.reading_is_worded.Goals as goal
+
+pub returns : goal.returns
+returns c = line_worded
