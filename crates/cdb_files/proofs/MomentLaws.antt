@@ -1,7 +1,15 @@
 -- How the images of a run of calls come from those of each call.
-use Rattle.std.proofs.Common.{ℕ, ◌≤◌, ◌⊎◌, inl, inr, arith}
+use Rattle.std.proofs.Common.{ℕ, ◌≤◌, ◌⊎◌, inl, inr, ◌∙◌, arith}
 use Rattle.cdb_model.specs.Maps.{FileMap}
 use Rattle.cdb_files.specs.Moments.{Elapses, Rests, AddsOnly}
+
+-- Two calls in a row that only read.
+pub rests_then : (a b c : ℕ) (past mid since : ℕ → FileMap → Type 0) → Rests a b past mid → Rests b c mid since → Rests a c past since
+rests_then a b c past mid since one two = record {
+  same = two.same ∙ one.same;
+  nothing_else = λ t m h. one.nothing_else t m (two.nothing_else t m h);
+  keeps = λ t m h. two.keeps t m (one.keeps t m h);
+}
 
 module _ {D : Type 0} (clock : D → ℕ) (since : D → ℕ → FileMap → Type 0) where
   -- No call yet.

@@ -1,12 +1,14 @@
 -- Laws of the states of a disk.
-use Rattle.std.proofs.Common.{◌≡◌, ◌≢◌, ℕ, ◌⊎◌, inl, inr, List, [], ◌∷◌, ◌++◌, take, None, Some, refl, sym, ap, ◌∙◌, subst}
+use Rattle.std.proofs.Common.{◌≡◌, ◌≢◌, ℕ, ◌≤◌, ◌⊎◌, inl, inr, List, [], ◌∷◌, ◌++◌, length, take, None, Some, IsTrue, refl, sym, ap, ◌∙◌, subst, arith, append-nil}
+use mathlib.Core.Path.{fun_ext}
 use Rattle.std.proofs.lemmas.Bool.{or_left, or_right}
+use Rattle.std.proofs.lemmas.List.{take_all}
 use Rattle.std.specs.Str.{bytes_eq}
 use Rattle.cdb_model.specs.Maps.{Text, Content, FileMap, IsThere, put, is_at_or_above, is_under}
 use Rattle.cdb_model.proofs.MapLaws.{put-same, put-other, put-put, bytes_eq-same}
-use Rattle.cdb_files.specs.Disk.{State, Possible, Allows, IsMade, with_piece, settled, added, after_create, after_append, after_sync_file, after_remove, after_make_dir, Fails, FailsAppend, FailsMakeDir}
+use Rattle.cdb_files.specs.Disk.{State, Possible, IsImage, Allows, IsMade, with_piece, settled, added, after_create, after_append, after_sync_file, after_remove, after_make_dir, Fails, FailsAppend, FailsMakeDir}
 use Rattle.cdb_files.specs.Moments.{IsBetween}
-use Rattle.cdb_files.specs.Whole.{after_fill, ChangesOnly, IsImageBut}
+use Rattle.cdb_files.specs.Whole.{after_fill, after_pieces, FailsFill, FailsWrite, ChangesOnly, IsImageBut}
 
 -- ---- what holds after a call
 pub made-make_dir : (folder : Text) (s : State) → IsMade (after_make_dir folder s) folder
@@ -27,9 +29,10 @@ there-append path piece s there =
     longer None h = h
     longer (Some bytes) h = tt
 
--- ---- a file that is written piece by piece: it has these bytes, and a crash may leave anything
-unfoldable pub after_pieces : Text → List ℕ → State → State
-after_pieces path bytes s = record s { present = put s.present path (Some bytes); may = put s.may path None }
+-- ---- a file that is written piece by piece
+pub pieces-there : (path : Text) (bytes : List ℕ) (s : State) → IsThere ((after_pieces path bytes s).present path)
+unfolding after_pieces
+pieces-there path bytes s = let C : Content → Type 0 = IsThere in subst C (sym (put-same s.present path (Some bytes))) tt
 
 pub create-pieces : (path : Text) (s : State) → after_create path s ≡ after_pieces path [] s
 unfolding after_create after_pieces
@@ -101,3 +104,43 @@ between-but path s old after m before call between q ne = of (between q)
     of : Allows (old.may q) (m q) ⊎ Allows (after.may q) (m q) → Allows (s.may q) (m q)
     of (inl a) = let P : Possible → Type 0 = λ p. Allows p (m q) in subst P (before.may q ne) a
     of (inr a) = let P : Possible → Type 0 = λ p. Allows p (m q) in subst P (before.may q ne) (subst P (call.may q ne) a)
+
+-- What a crash may leave of a state that changed at one path alone is, but at that path, an image of the one before.
+pub image-but : (path : Text) (s t : State) → ChangesOnly path s t → (m : FileMap) → IsImage t m → IsImageBut path s m
+image-but path s t only m image q ne = let P : Possible → Type 0 = λ p. Allows p (m q) in subst P (only.may q ne) (image q)
+
+-- ---- where the writing of a file failed
+pub pieces-only : (path : Text) (bytes : List ℕ) (s : State) → ChangesOnly path s (after_pieces path bytes s)
+unfolding after_pieces
+pieces-only path bytes s = record { present = put-other s.present path (Some bytes); may = put-other s.may path None }
+
+pub fails_fill-only : (path : Text) (bytes : List ℕ) (old new : State) → FailsFill path bytes old new → ChangesOnly path old new
+fails_fill-only path bytes old new (FailsFill.in_create fails) = fails-only path old (after_create path old) new (create-only path old) fails
+fails_fill-only path bytes old new (FailsFill.after_part n le e) = equal-only path old (after_pieces path (take n bytes) old) new (pieces-only path (take n bytes) old) e
+
+pub fails_write-only : (folder path : Text) (bytes : List ℕ) (old new : State) → FailsWrite folder path bytes old new → ChangesOnly path old new
+fails_write-only folder path bytes old new (FailsWrite.in_make_dir fails) = fails_make_dir-only path folder old new fails
+fails_write-only folder path bytes old new (FailsWrite.in_fill fails) =
+    then-only path old (after_make_dir folder old) new (make_dir-only path folder old) (fails_fill-only path bytes (after_make_dir folder old) new fails)
+
+-- An append to a file that is written: a first part of its piece is there.
+pub pieces-fail : (path : Text) (bytes piece : List ℕ) (s new : State) → FailsAppend path piece (after_pieces path bytes s) new
+    → (n : ℕ) × (n ≤ length piece) × (new ≡ after_pieces path (bytes ++ take n piece) s)
+unfolding after_pieces after_append
+pieces-fail path bytes piece s new (n, le, fails) = of fails.present
+  where
+    stays : (q : Text) → new.may q ≡ put s.may path None q
+    stays q = fails.stays q (ap (λ (m : Text → Possible). m q) (put-put s.may path None None))
+
+    state : (part : List ℕ) → new.present ≡ put s.present path (Some (bytes ++ part)) → new ≡ record s { present = put s.present path (Some (bytes ++ part)); may = put s.may path None }
+    state part e = let b = fun_ext stays in λ i. record { present = e i; may = b i; made = fails.made i }
+
+    of : (new.present ≡ put s.present path (Some bytes)) ⊎ (new.present ≡ put (put s.present path (Some bytes)) path (with_piece (take n piece) (put s.present path (Some bytes) path)))
+        → (n : ℕ) × (n ≤ length piece) × (new ≡ record s { present = put s.present path (Some (bytes ++ take n piece)); may = put s.may path None })
+    of (inl e) = (0, omega arith, state [] (e ∙ ap (λ t. put s.present path (Some t)) (sym (append-nil bytes))))
+    of (inr e) = (
+      n,
+      le,
+      state (take n piece) (e ∙ ap (λ c. put (put s.present path (Some bytes)) path (with_piece (take n piece) c)) (put-same s.present path (Some bytes))
+          ∙ put-put s.present path (Some bytes) (Some (bytes ++ take n piece))),
+    )

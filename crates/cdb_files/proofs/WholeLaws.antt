@@ -1,11 +1,16 @@
 -- Runs of calls that change one path alone.
-use Rattle.std.proofs.Common.{◌≡◌, ℕ, subst}
+use Rattle.std.proofs.Common.{◌≡◌, ℕ, Result, Ok, Err, OnErr, subst}
 use Rattle.cdb_model.specs.Maps.{Text, FileMap}
 use Rattle.cdb_files.specs.Disk.{State, Allows, Fails}
 use Rattle.cdb_files.specs.Moments.{IsBetween, Elapses}
 use Rattle.cdb_files.specs.Whole.{ChangesOnly, WritesOnly, IsImageBut}
 use Rattle.cdb_files.proofs.StateLaws.{same-only, then-only, between-but, equal-only, fails-only}
 use Rattle.cdb_files.proofs.MomentLaws.{started, goes_on, then_on, weaker}
+
+-- What holds in any case holds of an error.
+pub of_err : {T E : Type 0} (r : Result T E) (Q : Type 0) → Q → OnErr r Q
+of_err (Ok v) Q holds = tt
+of_err (Err e) Q holds = holds
 
 module _ {D : Type 0} (clock : D → ℕ) (since : D → ℕ → FileMap → Type 0) (state : D → State) (path : Text) where
   -- No call yet.

@@ -14,4 +14,4 @@ pub use failed::Failed;
 pub use folder::folder_above;
 pub use path::Path;
 pub use shelf::Shelf;
-pub use whole::{ReadSize, read_whole, write_whole};
+pub use whole::{ReadSize, fill, read_whole, write_whole};

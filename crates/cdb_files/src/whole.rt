@@ -1,9 +1,9 @@
-ghost use Rattle.std.specs.Prelude.{◌≡◌, ◌≤◌, ◌+◌, length, IfOk, OnOk};
+ghost use Rattle.std.specs.Prelude.{◌≡◌, ◌≤◌, ◌+◌, length, IfOk, OnOk, OnErr};
 ghost use Rattle.cdb_model.specs.Causes.{HasCause};
 ghost use Rattle.cdb_model.specs.Maps.{folder_above};
 ghost use Rattle.cdb_files.specs.Disk.{IsMade};
 ghost use Rattle.cdb_files.specs.Moments.{Rests};
-ghost use Rattle.cdb_files.specs.Whole.{after_fill, after_write, WritesOnly, IsWholeRead, IsOtherThan, ReadsIfWhole};
+ghost use Rattle.cdb_files.specs.Whole.{after_fill, after_write, FailsFill, FailsWrite, WritesOnly, IsWholeRead, IsOtherThan, ReadsIfWhole};
 
 use crate::{Disk, Failed, Path};
 
@@ -16,9 +16,12 @@ pub enum ReadSize {
     Other(Option<u64>),
 }
 
-fn fill<D: Disk>(disk: &mut D, path: &Path, piece: &[u8]) -> Result<(), Failed>
+/// Writes a file of these bytes in one piece and syncs it, in a folder that is there. Whatever it
+/// answers, it changes no other path. Where it fails, a first part of the bytes may be there.
+pub fn fill<D: Disk>(disk: &mut D, path: &Path, piece: &[u8]) -> Result<(), Failed>
     requires { D.tells → IsMade (D.state disk.old) (folder_above path.now.bytes) }
     ensures ok { D.tells → OnOk result (D.state disk.new ≡ after_fill path.now.bytes piece.now (D.state disk.old)) }
+    ensures err { D.tells → OnErr result (FailsFill path.now.bytes piece.now (D.state disk.old) (D.state disk.new)) }
     ensures only { D.tells → WritesOnly D.clock D.since D.state path.now.bytes disk.old disk.new }
     ensures cause { HasCause (D.fault_count disk.old) (D.fault_count disk.new) result }
     ensures reads { D.read_count disk.new ≡ D.read_count disk.old }
@@ -30,7 +33,8 @@ fn fill<D: Disk>(disk: &mut D, path: &Path, piece: &[u8]) -> Result<(), Failed>
 }
 
 /// Writes a file of these bytes in one piece and syncs it, in its folder, which is made where it
-/// isn't there. Whatever it answers, it changes no other path.
+/// isn't there. Whatever it answers, it changes no other path. Where it fails, some of the folders
+/// may have been made, and a first part of the bytes may be there.
 pub fn write_whole<D: Disk>(
     disk: &mut D,
     folder: &Path,
@@ -39,6 +43,7 @@ pub fn write_whole<D: Disk>(
 ) -> Result<(), Failed>
     requires { folder.now.bytes ≡ folder_above path.now.bytes }
     ensures ok { D.tells → OnOk result (D.state disk.new ≡ after_write folder.now.bytes path.now.bytes piece.now (D.state disk.old)) }
+    ensures err { D.tells → OnErr result (FailsWrite folder.now.bytes path.now.bytes piece.now (D.state disk.old) (D.state disk.new)) }
     ensures only { D.tells → WritesOnly D.clock D.since D.state path.now.bytes disk.old disk.new }
     ensures cause { HasCause (D.fault_count disk.old) (D.fault_count disk.new) result }
     ensures reads { D.read_count disk.new ≡ D.read_count disk.old }

@@ -1,8 +1,10 @@
-use Rattle.std.proofs.Common.{◌∙◌, sym, ap, subst, []}
+use Rattle.std.proofs.Common.{◌∙◌, sym, ap, subst, [], length, arith}
+use Rattle.std.proofs.lemmas.List.{take_all}
 use Rattle.cdb_model.specs.Maps.{IsThere}
-use Rattle.cdb_files.specs.Disk.{State, after_create, after_append, after_sync_file}
-use Rattle.cdb_files.proofs.StateLaws.{there-create, there-append, create-pieces, append-pieces, sync_file-pieces, create-only, append-only, sync_file-only, fails_append-only, equal-only, same-only}
-use Rattle.cdb_files.proofs.WholeLaws.{begun, onward, onward_ok, onward_err}
+use Rattle.cdb_files.specs.Disk.{State, FailsAppend, after_create, after_append, after_sync_file}
+use Rattle.cdb_files.specs.Whole.{FailsFill, after_pieces}
+use Rattle.cdb_files.proofs.StateLaws.{there-create, there-append, create-pieces, append-pieces, pieces-fail, sync_file-pieces, create-only, append-only, sync_file-only, fails_append-only, equal-only, same-only}
+use Rattle.cdb_files.proofs.WholeLaws.{of_err, begun, onward, onward_ok, onward_err}
 use Rattle.cdb_files.proofs.whole.fill.Goals as goal
 
 pub append-requires : goal.append-requires
@@ -63,3 +65,21 @@ returns-clause-ok g c told =
     c.in_ok-sync_file.ensures.ok told
     ∙ ap (after_sync_file p) (c.in_ok-append.ensures.ok told ∙ ap (after_append p piece) (c.in_ok-create.ensures.ok told ∙ create-pieces p s) ∙ append-pieces p [] piece s)
     ∙ sync_file-pieces p piece s
+
+pub returns-in_err-create-clause-err : goal.returns-in_err-create-clause-err
+returns-in_err-create-clause-err g c told = of_err _ _ (FailsFill.in_create (c.in_err-create.ensures.err told))
+
+pub returns-in_err-append-clause-err : goal.returns-in_err-append-clause-err
+returns-in_err-append-clause-err g c told =
+    let p = c.args.path.now.bytes in let piece = c.args.piece.now in let s = g.D.Disk.state c.args.disk.now in
+    let new = g.D.Disk.state c.append.new.self in
+    let F : State → Type 0 = λ one. FailsAppend p piece one new in
+    let part = pieces-fail p [] piece s new (subst F (c.in_ok-create.ensures.ok told ∙ create-pieces p s) (c.in_err-append.ensures.err told)) in
+    of_err _ _ (FailsFill.after_part part.0 part.1 part.2)
+
+pub returns-in_err-sync_file-clause-err : goal.returns-in_err-sync_file-clause-err
+returns-in_err-sync_file-clause-err g c told =
+    let p = c.args.path.now.bytes in let piece = c.args.piece.now in let s = g.D.Disk.state c.args.disk.now in
+    of_err _ _ (FailsFill.after_part (length piece) (omega arith) (c.in_err-sync_file.ensures.err told ∙ c.in_ok-append.ensures.ok told
+    ∙ ap (after_append p piece) (c.in_ok-create.ensures.ok told ∙ create-pieces p s) ∙ append-pieces p [] piece s
+    ∙ ap (λ t. after_pieces p t s) (sym (take_all (length piece) piece (omega arith)))))

@@ -1,9 +1,9 @@
 use Rattle.std.proofs.Common.{◌∙◌, sym, ap, subst}
 use Rattle.cdb_model.specs.Maps.{Text}
 use Rattle.cdb_files.specs.Disk.{State, IsMade, after_make_dir}
-use Rattle.cdb_files.specs.Whole.{after_fill, after_write}
+use Rattle.cdb_files.specs.Whole.{after_fill, after_write, FailsFill, FailsWrite}
 use Rattle.cdb_files.proofs.StateLaws.{made-make_dir, make_dir-only, fails_make_dir-only}
-use Rattle.cdb_files.proofs.WholeLaws.{begun, onward, onward_ok, further}
+use Rattle.cdb_files.proofs.WholeLaws.{of_err, begun, onward, onward_ok, further}
 use Rattle.cdb_files.proofs.whole.write_whole.Goals as goal
 
 pub fill-requires : goal.fill-requires
@@ -42,3 +42,12 @@ pub returns-clause-ok : goal.returns-clause-ok
 unfolding after_write
 returns-clause-ok g c told =
     c.in_ok-fill.ensures.ok told ∙ ap (after_fill c.args.path.now.bytes c.args.piece.now) (c.in_ok-make_dir.ensures.ok told)
+
+pub returns-in_err-make_dir-clause-err : goal.returns-in_err-make_dir-clause-err
+returns-in_err-make_dir-clause-err g c told = of_err _ _ (FailsWrite.in_make_dir (c.in_err-make_dir.ensures.err told))
+
+pub returns-in_err-fill-clause-err : goal.returns-in_err-fill-clause-err
+returns-in_err-fill-clause-err g c told =
+    let p = c.args.path.now.bytes in let piece = c.args.piece.now in
+    let F : State → Type 0 = λ made. FailsFill p piece made (g.D.Disk.state c.fill.new.disk) in
+    of_err _ _ (FailsWrite.in_fill (subst F (c.in_ok-make_dir.ensures.ok told) (c.in_err-fill.ensures.err told)))
