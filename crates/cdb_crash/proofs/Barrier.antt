@@ -62,7 +62,7 @@ module _ {X : Type 0} (Stands : FileMap → List X → Type 0) (Complete : List 
 
   barrier-clear : (P : List X) (x : X) (s : State) → IsImage s s.present → IsFaulted Stands P x s → IsClear (after_sync_dir [] s)
   barrier-clear P x s here faulted = record {
-    gone = λ k q under gone v a. faulted.clear.gone k q under (sym (ap (λ m. m q) (sync_dir-present [] s)) ∙ gone) v (sync_dir-allowed [] s here q v a);
+    gone = λ k le q under gone v a. faulted.clear.gone k le q under (sym (ap (λ m. m q) (sync_dir-present [] s)) ∙ gone) v (sync_dir-allowed [] s here q v a);
   }
 
   pub barrier_old : (P : List X) (x : X) (s : State) → IsImage s s.present → IsFaulted Stands P x s → Stands s.present P → IsWhole Stands P (after_sync_dir [] s)
@@ -81,19 +81,12 @@ module _ {X : Type 0} (Stands : FileMap → List X → Type 0) (Complete : List 
 
 -- ---- after a stop
 module _ {X : Type 0} (Stands : FileMap → List X → Type 0) where
-  alone-allowed : (m : FileMap) (s : State) → IsAlone m s → (q : Text) (v : Content) → Allows (s.may q) v → v ≡ m q
-  alone-allowed m s alone q v a = let A : Possible → Type 0 = λ p. Allows p v in of (subst A (alone.may q) a)
-    where
-      of : (v ≡ m q) ⊎ ⊥ → v ≡ m q
-      of (inl e) = e
-      of (inr e) = absurd e
-
   alone-image : (m : FileMap) (s : State) → IsAlone m s → (n : FileMap) → IsImage s n → n ≡ m
-  alone-image m s alone n image = fun_ext (λ q. alone-allowed m s alone q (n q) (image q))
+  alone-image m s alone n image = fun_ext (λ q. alone.may q (n q) (image q))
 
   -- A map that stands for a list, taken as the only one that is possible, is a whole disk.
   pub whole_alone : (P : List X) (m : FileMap) (s : State) → Stands m P → IsAlone m s → IsWhole Stands P s
   whole_alone P m s stands alone = record {
-    clear = record { gone = λ k q under gone v a. alone-allowed m s alone q v a ∙ sym (alone.present q) ∙ gone };
+    clear = record { gone = λ k le q under gone v a. alone.may q v a ∙ sym (alone.present q) ∙ gone };
     stands = λ n image. let S : FileMap → Type 0 = λ t. Stands t P in subst S (sym (alone-image m s alone n image)) stands;
   }

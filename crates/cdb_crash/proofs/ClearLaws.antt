@@ -1,5 +1,5 @@
 -- A clear disk stays clear.
-use Rattle.std.proofs.Common.{◌≡◌, ◌≢◌, ℕ, ◌⊎◌, inl, inr, List, [], ◌∷◌, take, None, Some, refl, sym, ap, ◌∙◌, subst}
+use Rattle.std.proofs.Common.{◌≡◌, ◌≢◌, ℕ, ◌≤◌, ◌⊎◌, inl, inr, List, [], ◌∷◌, take, None, Some, refl, sym, ap, ◌∙◌, subst}
 use Rattle.cdb_model.specs.Maps.{Text, Content, FileMap, IsThere, put}
 use Rattle.cdb_model.specs.Names.{head_path, new_head_path}
 use Rattle.cdb_model.proofs.MapLaws.{put-other, same_text}
@@ -15,21 +15,21 @@ use Rattle.cdb_crash.proofs.Possible.{sync_dir-allowed, sync_dir-present}
 -- Paths of versions that a call leaves as they were.
 kept_clear : (s new : State) → IsClear s → ((k : ℕ) (q : Text) → IsOfVersion k q → (new.present q ≡ s.present q) × (new.may q ≡ s.may q)) → IsClear new
 kept_clear s new clear same = record {
-  gone = λ k q under none v a. let P : Possible → Type 0 = λ p. Allows p v in
-      clear.gone k q under (sym ((same k q under).0) ∙ none) v (subst P ((same k q under).1) a);
+  gone = λ k le q under none v a. let P : Possible → Type 0 = λ p. Allows p v in
+      clear.gone k le q under (sym ((same k q under).0) ∙ none) v (subst P ((same k q under).1) a);
 }
 
 -- One path alone changes, and a file is there.
-clear_but : (path : Text) (s new : State) → IsClear s → ChangesOnly path s new → IsThere (new.present path) → IsClear new
-clear_but path s new clear only there = record { gone = λ k q under none v a. of k q under none v a (same_text q path) }
+pub clear_but : (path : Text) (s new : State) → IsClear s → ChangesOnly path s new → IsThere (new.present path) → IsClear new
+clear_but path s new clear only there = record { gone = λ k le q under none v a. of k le q under none v a (same_text q path) }
   where
-    of : (k : ℕ) (q : Text) → IsOfVersion k q → new.present q ≡ None → (v : Content) → Allows (new.may q) v → (q ≡ path) ⊎ (q ≢ path) → v ≡ None
-    of k q under none v a (inl e) = let T : Content → Type 0 = IsThere in absurd (subst T (sym (ap (λ t. new.present t) e) ∙ none) there)
-    of k q under none v a (inr ne) = let P : Possible → Type 0 = λ p. Allows p v in
-        clear.gone k q under (sym (only.present q ne) ∙ none) v (subst P (only.may q ne) a)
+    of : (k : ℕ) → k ≤ 4097 → (q : Text) → IsOfVersion k q → new.present q ≡ None → (v : Content) → Allows (new.may q) v → (q ≡ path) ⊎ (q ≢ path) → v ≡ None
+    of k le q under none v a (inl e) = let T : Content → Type 0 = IsThere in absurd (subst T (sym (ap (λ t. new.present t) e) ∙ none) there)
+    of k le q under none v a (inr ne) = let P : Possible → Type 0 = λ p. Allows p v in
+        clear.gone k le q under (sym (only.present q ne) ∙ none) v (subst P (only.may q ne) a)
 
 -- The new head alone changes.
-clear_but_new_head : (s new : State) → IsClear s → ChangesOnly new_head_path s new → IsClear new
+pub clear_but_new_head : (s new : State) → IsClear s → ChangesOnly new_head_path s new → IsClear new
 clear_but_new_head s new clear only = kept_clear s new clear
     (λ k q under. (only.present q (not_new_head k q under), only.may q (not_new_head k q under)))
 
@@ -84,7 +84,7 @@ clear_stays = record {
     err = λ new e. equal_clear s new clear e;
   };
   sync_dir = λ folder s here clear. record {
-    ok = record { gone = λ k q under none v a. clear.gone k q under (sym (ap (λ m. m q) (sync_dir-present folder s)) ∙ none) v (sync_dir-allowed folder s here q v a) };
+    ok = record { gone = λ k le q under none v a. clear.gone k le q under (sym (ap (λ m. m q) (sync_dir-present folder s)) ∙ none) v (sync_dir-allowed folder s here q v a) };
     err = λ new e. equal_clear s new clear e;
   };
   new_head = λ s clear. record {

@@ -1,5 +1,5 @@
 -- Recovery: the files of the version after the newest go one by one.
-use Rattle.std.proofs.Common.{◌≡◌, ◌≢◌, ℕ, ◌+◌, ◌-◌, ◌≤◌, ◌⊎◌, inl, inr, List, length, None, refl, sym, ap, ◌∙◌, subst}
+use Rattle.std.proofs.Common.{◌≡◌, ◌≢◌, ℕ, ◌+◌, ◌-◌, ◌≤◌, ◌⊎◌, inl, inr, List, length, None, refl, sym, ap, ◌∙◌, subst, arith}
 use Rattle.cdb_model.specs.Maps.{Text, Content, FileMap, IsThere, folder_above, NoneUnder}
 use Rattle.cdb_model.specs.Names.{version_folder, new_head_path}
 use Rattle.cdb_model.proofs.MapLaws.{put-same, put-other, same_text, bytes_eq-same}
@@ -59,8 +59,9 @@ module _ {X : Type 0} (Stands : FileMap → List X → Type 0) (Complete : List 
   from_whole P s here whole = record { clear = whole.clear; stands = whole.stands; few = layout.limit P s.present (whole.stands s.present here) }
 
   -- There is room for the removal of a file that is there.
-  pub clearing_room : (P : List X) (count : ℕ) (s : State) (path : Text) → count ≤ 65536 → IsClearing Stands P count s → IsThere (s.present path) → HasRoom Stands P path s
-  clearing_room P count s path le clearing there = clear_room Stands Complete head_text layout P s path clearing.clear clearing.stands
+  pub clearing_room : (P : List X) (count : ℕ) (s : State) (path : Text) → count ≤ 65536 → IsImage s s.present → IsClearing Stands P count s → IsThere (s.present path) → HasRoom Stands P path s
+  clearing_room P count s path le here clearing there = clear_room Stands Complete head_text layout P s path
+      (layout.count P s.present (clearing.stands s.present here)) clearing.clear clearing.stands
       (at_most-wider count 65536 (λ q. IsOfVersion (length P + 1) q × IsThere (s.present q)) _ le (λ q f. (f.0, of q (f.1))) clearing.few)
     where
       of : (q : Text) → IsThere (s.present q) ⊎ (q ≡ path) → IsThere (s.present q)
@@ -72,8 +73,8 @@ module _ {X : Type 0} (Stands : FileMap → List X → Type 0) (Complete : List 
       → IsOfVersion (length P + 1) path → IsThere (s.present path)
       → IsClearing Stands P (count - 1) (after_sync_dir (folder_above path) (after_remove path s))
   goes P count s path le here clearing under there = record {
-    clear = record { gone = λ k q of_k gone v a. clear k q of_k gone v a (same_text q path) };
-    stands = λ m image. stands_but Stands Complete head_text layout P s path here (clearing_room P count s path le clearing there) (inr under) m
+    clear = record { gone = λ k le q of_k gone v a. clear k le q of_k gone v a (same_text q path) };
+    stands = λ m image. stands_but Stands Complete head_text layout P s path here (clearing_room P count s path le here clearing there) (inr under) m
         (λ q ne. removed_kept-other path s here q ne (m q) (image q));
     few = one_less count (λ q. IsOfVersion (length P + 1) q × IsThere (s.present q))
         (λ q. IsOfVersion (length P + 1) q × IsThere ((after_sync_dir (folder_above path) (after_remove path s)).present q)) path (under, there)
@@ -83,12 +84,12 @@ module _ {X : Type 0} (Stands : FileMap → List X → Type 0) (Complete : List 
       at : (q : Text) → (after_sync_dir (folder_above path) (after_remove path s)).present q ≡ (after_remove path s).present q
       at q = ap (λ m. m q) (sync_dir-present (folder_above path) (after_remove path s))
 
-      clear : (k : ℕ) (q : Text) → IsOfVersion k q → (after_sync_dir (folder_above path) (after_remove path s)).present q ≡ None → (v : Content)
+      clear : (k : ℕ) → k ≤ 4097 → (q : Text) → IsOfVersion k q → (after_sync_dir (folder_above path) (after_remove path s)).present q ≡ None → (v : Content)
           → Allows ((after_sync_dir (folder_above path) (after_remove path s)).may q) v → (q ≡ path) ⊎ (q ≢ path) → v ≡ None
-      clear k q of_k gone v a (inl e) =
+      clear k le q of_k gone v a (inl e) =
           let A : Text → Type 0 = λ t. Allows ((after_sync_dir (folder_above path) (after_remove path s)).may t) v in removed_kept-at path s v (subst A e a)
-      clear k q of_k gone v a (inr ne) =
-          clearing.clear.gone k q of_k (sym (at q ∙ removed-present path s q ne) ∙ gone) v (removed_kept-other path s here q ne v a)
+      clear k le q of_k gone v a (inr ne) =
+          clearing.clear.gone k le q of_k (sym (at q ∙ removed-present path s q ne) ∙ gone) v (removed_kept-other path s here q ne v a)
 
       fewer : (q : Text) → IsOfVersion (length P + 1) q → IsThere ((after_sync_dir (folder_above path) (after_remove path s)).present q) → (q ≡ path) ⊎ (q ≢ path)
           → (IsOfVersion (length P + 1) q × IsThere (s.present q)) × (q ≢ path)
@@ -101,15 +102,15 @@ module _ {X : Type 0} (Stands : FileMap → List X → Type 0) (Complete : List 
   pub at_last : (P : List X) (count : ℕ) (s : State) → IsClearing Stands P count s → NoneUnder s.present (version_folder (length P + 1)) → IsClean Stands P s
   at_last P count s clearing none = record {
     whole = record { clear = clearing.clear; stands = clearing.stands };
-    none = λ m image q under. clearing.clear.gone (length P + 1) q under (none q under) (m q) (image q);
+    none = λ m image q under. clearing.clear.gone (length P + 1) (let le = layout.count P m (clearing.stands m image) in omega (arith, le)) q under (none q under) (m q) (image q);
   }
 
   -- The new head goes, without a sync.
   pub whole_without_new_head : (P : List X) (s : State) → IsImage s s.present → IsWhole Stands P s → IsWhole Stands P (after_remove new_head_path s)
   whole_without_new_head P s here whole = record {
     clear = record {
-      gone = λ k q under gone v a. let ne = not_new_head k q under in
-          whole.clear.gone k q under (sym (removed-present new_head_path s q ne) ∙ gone) v (removed-allowed new_head_path s q ne v a);
+      gone = λ k le q under gone v a. let ne = not_new_head k q under in
+          whole.clear.gone k le q under (sym (removed-present new_head_path s q ne) ∙ gone) v (removed-allowed new_head_path s q ne v a);
     };
     stands = λ m image. stands_but Stands Complete head_text layout P s new_head_path here (whole_room Stands Complete head_text layout P s here whole) (inl refl) m
         (λ q ne. removed-allowed new_head_path s q ne (m q) (image q));

@@ -57,7 +57,7 @@ empty_store = record {
   head = λ bytes stands. gap bytes (sym stands.head ∙ put-same (λ p. None) head_path (Some bytes));
   stray = λ path bytes under stands. gap bytes (sym (none_beyond [] (put (λ p. None) path (Some bytes)) stands 2 (omega arith) path under) ∙ put-same (λ p. None) path (Some bytes));
   disk = record {
-    whole = whole_alone Stands [] (λ path. None) empty_disk none_stands (record { present = λ path. refl; may = λ path. refl });
+    whole = whole_alone Stands [] (λ path. None) empty_disk none_stands (record { present = λ path. refl; may = λ path. of });
     none = λ m image q under. of (m q) (image q);
   };
 }

@@ -208,7 +208,7 @@ module _ {X : Type 0} (Stands : FileMap → List X → Type 0) (Complete : List 
   clean_at_end P x s here ready now = record {
     whole = record {
       clear = record {
-        gone = λ k q under gone v a. ready.clear.gone k q under
+        gone = λ k le q under gone v a. ready.clear.gone k le q under
             (sym (ap (λ m. m q) (sync_dir-present [] (head_renamed (head_text (length P + 1)) s))
             ∙ renamed-present (head_text (length P + 1)) s q (not_new_head k q under) (not_head k q under)) ∙ gone) v (allowed k q under v a);
       };

@@ -1,5 +1,5 @@
 -- A call on a leftover, and any sync of a folder: whatever a crash leaves goes on standing for the list.
-use Rattle.std.proofs.Common.{◌≡◌, ◌≢◌, ℕ, ◌+◌, ◌⊎◌, inl, inr, List, length, None, Some, refl, sym, subst, arith}
+use Rattle.std.proofs.Common.{◌≡◌, ◌≢◌, ℕ, ◌+◌, ◌≤◌, ◌⊎◌, inl, inr, List, length, None, Some, refl, sym, subst, arith}
 use Rattle.cdb_model.specs.Maps.{Text, Content, FileMap, IsThere, put}
 use Rattle.cdb_model.specs.Names.{new_head_path}
 use Rattle.cdb_model.proofs.MapLaws.{put-other, same_text}
@@ -31,25 +31,25 @@ module _ {X : Type 0} (Stands : FileMap → List X → Type 0) (Complete : List 
       last q there (inr ne) = inl ((m q, but q ne, there))
 
   -- A file that is there in some image of a clear disk is there at present.
-  pub clear_there : (s : State) (k : ℕ) (q : Text) → IsClear s → IsOfVersion k q → MayLast s q → IsThere (s.present q)
-  clear_there s k q clear under (v, allowed, there) = of (s.present q) refl
+  pub clear_there : (s : State) (k : ℕ) (q : Text) → k ≤ 4097 → IsClear s → IsOfVersion k q → MayLast s q → IsThere (s.present q)
+  clear_there s k q le clear under (v, allowed, there) = of (s.present q) refl
     where
       of : (c : Content) → s.present q ≡ c → IsThere c
-      of None e = let T : Content → Type 0 = IsThere in absurd (subst T (clear.gone k q under e v allowed) there)
+      of None e = let T : Content → Type 0 = IsThere in absurd (subst T (clear.gone k le q under e v allowed) there)
       of (Some bytes) e = tt
 
   -- Room on a clear disk whose leftovers are few at present.
-  pub clear_room : (P : List X) (s : State) (p : Text) → IsClear s → ((m : FileMap) → IsImage s m → Stands m P)
+  pub clear_room : (P : List X) (s : State) (p : Text) → length P ≤ 4096 → IsClear s → ((m : FileMap) → IsImage s m → Stands m P)
       → AtMost 65536 (λ q. IsOfVersion (length P + 1) q × (IsThere (s.present q) ⊎ (q ≡ p))) → HasRoom Stands P p s
-  clear_room P s p clear stands few = record { stands = stands; few = at_most-wider 65536 65536 _ _ (omega arith) (λ q f. (f.0, of q (f.0) (f.1))) few }
+  clear_room P s p le clear stands few = record { stands = stands; few = at_most-wider 65536 65536 _ _ (omega arith) (λ q f. (f.0, of q (f.0) (f.1))) few }
     where
       of : (q : Text) → IsOfVersion (length P + 1) q → MayLast s q ⊎ (q ≡ p) → IsThere (s.present q) ⊎ (q ≡ p)
-      of q under (inl last) = inl (clear_there s (length P + 1) q clear under last)
+      of q under (inl last) = inl (clear_there s (length P + 1) q (omega (arith, le)) clear under last)
       of q under (inr e) = inr e
 
   -- On a whole disk there is room for a call on the new head.
   pub whole_room : (P : List X) (s : State) → IsImage s s.present → IsWhole Stands P s → HasRoom Stands P new_head_path s
-  whole_room P s here whole = clear_room P s new_head_path whole.clear whole.stands
+  whole_room P s here whole = clear_room P s new_head_path (layout.count P s.present (whole.stands s.present here)) whole.clear whole.stands
       (at_most-wider 65536 65536 _ _ (omega arith) (λ q f. (f.0, of q (f.0) (f.1))) (layout.limit P s.present (whole.stands s.present here)))
     where
       of : (q : Text) → IsOfVersion (length P + 1) q → IsThere (s.present q) ⊎ (q ≡ new_head_path) → IsThere (s.present q)

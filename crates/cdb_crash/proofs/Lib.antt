@@ -17,6 +17,9 @@ pub mod OneList
 pub mod PlanLists
 pub mod PlanFiles
 pub mod PlanLaws
+pub mod PlanNumbers
+pub mod NewestFiles
+pub mod FailedWrites
 pub mod RunLaws
 pub mod ClearLaws
 pub mod RecoveryLaws

@@ -1,5 +1,6 @@
 -- The laws over the store's own files, as other crates cite them.
 use Rattle.std.proofs.Common.{refl, Some}
+use Rattle.cdb_model.specs.ByteLaws.{BytesByReaching}
 use Rattle.cdb_model.specs.Maps.{put, folder_above}
 use Rattle.cdb_model.specs.Names.{head_path, new_head_path}
 use Rattle.cdb_model.specs.Records.{head_file_text}
@@ -7,6 +8,7 @@ use Rattle.cdb_model.specs.Stands.{Stands}
 use Rattle.cdb_files.specs.Whole.{after_write}
 use Rattle.cdb_crash.specs.Leftovers.{HasNext}
 use Rattle.cdb_crash.specs.Laws.{OwnPaths, OneList, EmptyStore, FolderCalls, LeftoverCalls, ClearStays, Room, BeginsClean, FileStep, FolderStep, RecordStep, ReadyStep, HeadStep, PlanSteps, Publishes, EveryList, WholeStays, Clearing, Recovers, AfterFault, AfterStop}
+use Rattle.cdb_crash.specs.StepLaws.{StepNumbers, NewestFiles, FilledHead, FailedWrites}
 use Rattle.cdb_crash.proofs.OneList as one
 use Rattle.cdb_crash.proofs.EmptyLaws as empty
 use Rattle.cdb_crash.proofs.CallLaws as calls
@@ -20,15 +22,19 @@ use Rattle.cdb_crash.proofs.Clearing.{clearing_room, from_whole, goes, at_last, 
 use Rattle.cdb_crash.proofs.Law.{stands_but, whole_room}
 use Rattle.cdb_crash.proofs.Paths.{versions_apart, not_head, not_new_head}
 use Rattle.cdb_crash.proofs.PlanLaws.{plan_keeps}
+use Rattle.cdb_crash.proofs.PlanNumbers.{numbers}
+use Rattle.cdb_crash.proofs.NewestFiles as newest
+use Rattle.cdb_crash.proofs.FailedWrites as failed
+use Rattle.cdb_crash.proofs.HeadSteps.{filled-there, filled-settled}
 use Rattle.cdb_crash.proofs.Steps.{mid_room, write_step, whole_synced}
 use Rattle.cdb_crash.proofs.StoreLaws.{store_layout, file_under, next_local}
 
 pub own_paths : OwnPaths
 own_paths = record {
-  files = file_under;
-  apart = versions_apart;
-  head = λ k under. not_head k head_path under refl;
-  new_head = λ k under. not_new_head k new_head_path under refl;
+  files = λ earlier sources tiles path bytes le. file_under earlier sources tiles path bytes;
+  apart = λ j k path a b. versions_apart j k path;
+  head = λ k le under. not_head k head_path under refl;
+  new_head = λ k le under. not_new_head k new_head_path under refl;
 }
 
 pub one_list : OneList Stands
@@ -95,6 +101,18 @@ after_fault = record { old = barrier_old Stands HasNext head_file_text store_lay
 
 pub after_stop : AfterStop Stands
 after_stop = record { alone = whole_alone Stands; again = λ P s m new whole image alone. whole_alone Stands P m new (whole.stands m image) alone }
+
+pub step_numbers : StepNumbers
+step_numbers = numbers
+
+pub newest_files : BytesByReaching → NewestFiles
+newest_files = newest.newest_files
+
+pub filled_head : FilledHead
+filled_head = record { there = filled-there; settled = filled-settled }
+
+pub failed_writes : FailedWrites
+failed_writes = failed.failed_writes
 
 pub clear_stays : ClearStays
 clear_stays = clears.clear_stays

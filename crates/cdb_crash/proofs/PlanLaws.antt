@@ -1,5 +1,5 @@
 -- The steps of a publication lead from a clean disk to where its head alone is left.
-use Rattle.std.proofs.Common.{◌≡◌, ◌≢◌, ℕ, zero, suc, ◌+◌, Bool, true, false, ◌⊎◌, inl, inr, List, [], ◌∷◌, ◌++◌, length, length-append, get_or, take, drop, map, Option, None, Some, IsTrue, refl, sym, ap, ◌∙◌, subst, arith}
+use Rattle.std.proofs.Common.{◌≡◌, ◌≢◌, ℕ, zero, suc, ◌+◌, ◌<◌, Bool, true, false, ◌⊎◌, inl, inr, List, [], ◌∷◌, ◌++◌, length, length-append, get_or, take, drop, map, Option, None, Some, IsTrue, refl, sym, ap, ◌∙◌, subst, arith}
 use Rattle.std.specs.Prelude.{slice_get, codes, ◌==◌}
 use Rattle.std.proofs.lemmas.Bool.{cond-true, or_left, or_right}
 use Rattle.std.proofs.lemmas.List.{take-append-drop, take_all, length-map}
@@ -9,6 +9,7 @@ use Rattle.cdb_source.specs.Reached.{IsTouched}
 use Rattle.cdb_source.specs.declared.source.Source.{Source}
 use Rattle.cdb_model.specs.Machine.{heads_of, sources_of}
 use Rattle.cdb_model.specs.Maps.{Text, FileMap, IsThere, put, has_slash, folder_above}
+use Rattle.cdb_model.specs.Publications.{each_once, source_paths, file_paths, folders_above}
 use Rattle.cdb_model.specs.Names.{version_folder, record_path, source_path, path, sources_folder, metadata_folder, spell, fields_of_path, four}
 use Rattle.cdb_model.specs.Records.{head_file_text}
 use Rattle.cdb_model.specs.Stands.{ArePublications, IsVersionFile, Stands}
@@ -25,23 +26,49 @@ use Rattle.cdb_crash.proofs.PlanFiles.{same_file, files_good, file_of_plan, few_
 use Rattle.cdb_crash.proofs.PlanLists.{Each, each-append, each-front, each-back, each-map, each-wider, each-all, each-once, Some_of, some-left, some-right, some-map, some-once, split_two, Writes_bytes, there_written, written, Syncs, Leaves, not_synced, are_synced}
 
 -- ---- how many steps
-source_files-count : (v number : ℕ) (sources : List Source) → length (source_files v number sources) ≡ length sources
+pub source_files-count : (v number : ℕ) (sources : List Source) → length (source_files v number sources) ≡ length sources
 source_files-count v number [] = refl
 source_files-count v number (s ∷ sources) = ap suc (source_files-count v (number + 1) sources)
 
-step_count : (P : List (List Source)) (x : List Source) (tiles : List Tile)
+pub files-count : (P : List (List Source)) (x : List Source) (tiles : List Tile) → length (files_of P x tiles) ≡ length x + length tiles
+files-count P x tiles = omega (
+  arith,
+  length-append (source_files (length P + 1) 1 x) (map (tile_file (length P + 1) (sources_of (P ++ x ∷ []))) tiles),
+  source_files-count (length P + 1) 1 x,
+  length-map tiles (tile_file (length P + 1) (sources_of (P ++ x ∷ []))),
+)
+
+plan_count : (P : List (List Source)) (x : List Source) (tiles : List Tile)
     → length (steps_of P x tiles) + 1 ≡ length x + length tiles + length (folders_of (files_of P x tiles)) + 2
-step_count P x tiles =
-    let v : ℕ = length P + 1 in
-    let all : List Source = sources_of (P ++ x ∷ []) in
+plan_count P x tiles =
     let a = length-append (map Step.write (files_of P x tiles)) (map Step.sync (folders_of (files_of P x tiles)) ++ Step.write_and_sync (record_of P x tiles) ∷ []) in
     let b = length-map (files_of P x tiles) Step.write in
-    let c = length-append (source_files (length P + 1) 1 x) (map (tile_file (length P + 1) (sources_of (P ++ x ∷ []))) tiles) in
-    let d = source_files-count (length P + 1) 1 x in
-    let e = length-map tiles (tile_file (length P + 1) (sources_of (P ++ x ∷ []))) in
+    let c = files-count P x tiles in
     let f = length-append (map Step.sync (folders_of (files_of P x tiles))) (Step.write_and_sync (record_of P x tiles) ∷ []) in
     let g = length-map (folders_of (files_of P x tiles)) Step.sync in
-    omega (arith, a, b, c, d, e, f, g)
+    omega (arith, a, b, c, f, g)
+
+-- The folders of the files are those of their paths.
+source_files-paths : (v number : ℕ) (sources : List Source) → map (λ (file : File). folder_above file.path) (source_files v number sources) ≡ map folder_above (source_paths v number sources)
+source_files-paths v number [] = refl
+source_files-paths v number (s ∷ sources) = ap (λ t. folder_above (source_path v number) ∷ t) (source_files-paths v (number + 1) sources)
+
+tile_files-paths : (v : ℕ) (all : List Source) (tiles : List Tile) → map (λ (file : File). folder_above file.path) (map (tile_file v all) tiles) ≡ map folder_above (map (path v) tiles)
+tile_files-paths v all [] = refl
+tile_files-paths v all (t ∷ tiles) = ap (λ r. folder_above (path v t) ∷ r) (tile_files-paths v all tiles)
+
+map-both : {A B : Type 0} (f : A → B) (xs ys : List A) → map f (xs ++ ys) ≡ map f xs ++ map f ys
+map-both f [] ys = refl
+map-both f (x ∷ xs) ys = ap (λ t. f x ∷ t) (map-both f xs ys)
+
+pub folders_by_paths : (P : List (List Source)) (x : List Source) (tiles : List Tile) → folders_of (files_of P x tiles) ≡ folders_above (file_paths P x tiles)
+folders_by_paths P x tiles =
+    let v : ℕ = length P + 1 in
+    let all : List Source = sources_of (P ++ x ∷ []) in
+    ap each_once (map-both (λ (file : File). folder_above file.path) (source_files v 1 x) (map (tile_file v all) tiles)
+    ∙ ap (λ t. t ++ map (λ (file : File). folder_above file.path) (map (tile_file v all) tiles)) (source_files-paths v 1 x)
+    ∙ ap (λ t. map folder_above (source_paths v 1 x) ++ t) (tile_files-paths v all tiles)
+    ∙ sym (map-both folder_above (source_paths v 1 x) (map (path v) tiles)))
 
 -- ---- a step by its number
 none_some : {A : Type 0} (y : A) → None ≡ Some y → ⊥
@@ -304,16 +331,36 @@ module _ (P : List (List Source)) (x : List Source) (tiles : List Tile) (list : 
       good_under step ((each-back IsGood (take number (steps_of P x tiles)) (step ∷ (at_number (steps_of P x tiles) number step at).rest)
       (subst G (at_number (steps_of P x tiles) number step at).split plan_good)).0)
 
+  among : (steps : List Step) (i n : ℕ) (file : File) → slice_get steps i ≡ Some (Step.write file) → i < n → Some_of (WritesTo file.path) (take n steps)
+  among [] i n file at less = absurd (none_some (Step.write file) at)
+  among (y ∷ steps) i zero file at less = absurd (omega (arith, less))
+  among (y ∷ steps) zero (suc n) file at less = let W : Step → Type 0 = WritesTo file.path in inl (subst W (sym (some_is y (Step.write file) at)) refl)
+  among (y ∷ steps) (suc i) (suc n) file at less = inr (among steps i n file at (omega (arith, less)))
+
+  -- A file that a step has written is there.
+  step_there : (i n : ℕ) (s : State) (file : File) → IsMidAfter P x tiles n s → slice_get (steps_of P x tiles) i ≡ Some (Step.write file) → i < n → s.present file.path ≡ Some file.bytes
+  step_there i n s file mid at less =
+      let G : List Step → Type 0 = Each IsGood in
+      let split = at_number (steps_of P x tiles) i (Step.write file) at in
+      let good : IsVersionFile P x tiles file.path file.bytes = (each-back IsGood (take i (steps_of P x tiles)) (Step.write file ∷ split.rest) (subst G split.split plan_good)).0 in
+      let front = front_good (take n (steps_of P x tiles)) (drop n (steps_of P x tiles)) (sym (take-append-drop n (steps_of P x tiles))) in
+      mid.present file.path (step_under i (Step.write file) at file.path refl)
+      ∙ written (take n (steps_of P x tiles)) file.path file.bytes
+      (each-wider IsGood (Writes_bytes file.path file.bytes) (same_bytes file.path file.bytes good) (take n (steps_of P x tiles)) front)
+      (among (steps_of P x tiles) i n file at less)
+
   step_room : (number : ℕ) (s : State) (path : Text) → IsMidAfter P x tiles number s → HasRoom Stands P path s
   step_room number s path mid = mid_room Stands HasNext head_file_text store_layout P (files_after (take number (steps_of P x tiles))) (synced_after (take number (steps_of P x tiles))) s path mid
       (few (take number (steps_of P x tiles)) (drop number (steps_of P x tiles)) (sym (take-append-drop number (steps_of P x tiles))))
 
   pub plan_keeps : PlanKeeps P x tiles
   plan_keeps = record {
-    count = step_count P x tiles;
+    count = plan_count P x tiles;
+    steps = plan_count P x tiles ∙ ap (λ (folders : List Text). length x + length tiles + length folders + 2) (folders_by_paths P x tiles);
     begins = λ s here clean. begins_clean Stands P (λ folder. false) s here clean;
     under = step_under;
     room = step_room;
+    there = step_there;
     calls = λ number step s at here mid path writes. path_calls (λ m. Stands m P) path s
         (stands_but Stands HasNext head_file_text store_layout P s path here (step_room number s path mid) (inr (step_under number step at path writes)));
     step = λ number step s at here mid. let D : List Step → Type 0 = λ ds. IsMid Stands P (files_after ds) (synced_after ds) (after_step step s) in

@@ -1,5 +1,5 @@
 -- The steps of a publication before the head: from one middle to the next.
-use Rattle.std.proofs.Common.{◌≡◌, ◌≢◌, ℕ, ◌+◌, ◌||◌, Bool, true, false, ◌⊎◌, inl, inr, List, [], ◌∷◌, length, None, Some, IsTrue, refl, sym, ap, ◌∙◌, subst, arith}
+use Rattle.std.proofs.Common.{◌≡◌, ◌≢◌, ℕ, ◌+◌, ◌≤◌, ◌||◌, Bool, true, false, ◌⊎◌, inl, inr, List, [], ◌∷◌, length, None, Some, IsTrue, refl, sym, ap, ◌∙◌, subst, arith}
 use Rattle.std.proofs.lemmas.Bool.{true≢false}
 use Rattle.std.specs.Str.{bytes_eq}
 use Rattle.cdb_model.specs.Maps.{Text, Content, FileMap, IsThere, put, folder_above}
@@ -65,7 +65,7 @@ module _ {X : Type 0} (Stands : FileMap → List X → Type 0) (Complete : List 
       → IsMid Stands P (put files path (Some bytes)) synced (after_write folder path bytes s)
   write_step P files synced s folder path bytes here mid few under fresh = record {
     whole = record {
-      clear = record { gone = λ k q of_k gone v a. clear k q of_k gone v a (same_text q path) };
+      clear = record { gone = λ k le q of_k gone v a. clear k le q of_k gone v a (same_text q path) };
       stands = λ m image. stands_but Stands Complete head_text layout P s path here (mid_room P files synced s path mid few) (inr under) m
           (λ q ne. write-other folder path bytes s q ne (m q) (image q));
     };
@@ -80,12 +80,12 @@ module _ {X : Type 0} (Stands : FileMap → List X → Type 0) (Complete : List 
       at : (q : Text) → (after_write folder path bytes s).present q ≡ put s.present path (Some bytes) q
       at q = ap (λ m. m q) (write-present folder path bytes s)
 
-      clear : (k : ℕ) (q : Text) → IsOfVersion k q → (after_write folder path bytes s).present q ≡ None → (v : Content)
+      clear : (k : ℕ) → k ≤ 4097 → (q : Text) → IsOfVersion k q → (after_write folder path bytes s).present q ≡ None → (v : Content)
           → Allows ((after_write folder path bytes s).may q) v → (q ≡ path) ⊎ (q ≢ path) → v ≡ None
-      clear k q of_k gone v a (inl e) = let T : Content → Type 0 = IsThere in
+      clear k le q of_k gone v a (inl e) = let T : Content → Type 0 = IsThere in
           absurd (subst T (sym (put-at s.present path (Some bytes) q e) ∙ sym (at q) ∙ gone) tt)
-      clear k q of_k gone v a (inr ne) =
-          mid.whole.clear.gone k q of_k (sym (put-other s.present path (Some bytes) q ne) ∙ sym (at q) ∙ gone) v (write-other folder path bytes s q ne v a)
+      clear k le q of_k gone v a (inr ne) =
+          mid.whole.clear.gone k le q of_k (sym (put-other s.present path (Some bytes) q ne) ∙ sym (at q) ∙ gone) v (write-other folder path bytes s q ne v a)
 
       present : (q : Text) → IsOfVersion (length P + 1) q → (q ≡ path) ⊎ (q ≢ path) → (after_write folder path bytes s).present q ≡ put files path (Some bytes) q
       present q of_next (inl e) = at q ∙ put-at s.present path (Some bytes) q e ∙ sym (put-at files path (Some bytes) q e)
@@ -112,7 +112,7 @@ module _ {X : Type 0} (Stands : FileMap → List X → Type 0) (Complete : List 
   -- Any sync of a folder keeps a disk whole.
   pub whole_synced : (P : List X) (s : State) (folder : Text) → IsImage s s.present → IsWhole Stands P s → IsWhole Stands P (after_sync_dir folder s)
   whole_synced P s folder here whole = record {
-    clear = record { gone = λ k q of_k gone v a. whole.clear.gone k q of_k (sym (ap (λ m. m q) (sync_dir-present folder s)) ∙ gone) v (sync_dir-allowed folder s here q v a) };
+    clear = record { gone = λ k le q of_k gone v a. whole.clear.gone k le q of_k (sym (ap (λ m. m q) (sync_dir-present folder s)) ∙ gone) v (sync_dir-allowed folder s here q v a) };
     stands = λ m image. whole.stands m (sync_dir-image folder s here m image);
   }
 

@@ -155,6 +155,7 @@ heads P x m n a b e = of P a.publications.few (sym a.head ∙ e ∙ b.head ∙ c
 pub store_layout : IsLayout Stands HasNext head_file_text
 store_layout = record {
   leftovers = leftovers;
+  count = λ P m store. store.publications.few;
   limit = λ P m store. store.leftovers;
   head = λ P m n a b. a.head ∙ sym b.head;
   next = next;

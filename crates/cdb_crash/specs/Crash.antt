@@ -1,5 +1,5 @@
 -- What a crash may leave of a disk on which a store lies. The parameter says which maps of files stand for which lists.
-use Rattle.std.specs.Prelude.{◌≡◌, ◌≢◌, ℕ, ◌+◌, ◌||◌, Bool, ◌⊎◌, List, [], ◌∷◌, ◌++◌, length, None, Some, IsTrue}
+use Rattle.std.specs.Prelude.{◌≡◌, ◌≢◌, ℕ, ◌+◌, ◌≤◌, ◌||◌, Bool, ◌⊎◌, List, [], ◌∷◌, ◌++◌, length, None, Some, IsTrue}
 use Rattle.std.specs.Str.{bytes_eq}
 use Rattle.cdb_model.specs.Maps.{Text, Content, FileMap, IsThere, folder_above, NoneUnder}
 use Rattle.cdb_model.specs.Names.{version_folder, head_path, new_head_path}
@@ -8,9 +8,10 @@ use Rattle.cdb_files.specs.Disk.{State, IsImage, Allows, after_rename, after_syn
 use Rattle.cdb_files.specs.Whole.{after_fill}
 use Rattle.cdb_crash.specs.Leftovers.{IsOfVersion, HasAtMost}
 
--- A path under a version that has no file at present has none after a crash.
+-- A path under a version that has no file at present has none after a crash. The last version is 4,096, and files may be
+-- left under the one after it.
 pub record IsClear (s : State) : Type 0 where
-  pub gone : (version : ℕ) (path : Text) → IsOfVersion version path → s.present path ≡ None → (v : Content) → Allows (s.may path) v → v ≡ None
+  pub gone : (version : ℕ) → version ≤ 4097 → (path : Text) → IsOfVersion version path → s.present path ≡ None → (v : Content) → Allows (s.may path) v → v ≡ None
 
 -- A crash may leave a file at the path.
 abbrev pub MayLast : State → Text → Type 0
@@ -34,10 +35,10 @@ head_renamed text s = after_rename new_head_path head_path (head_filled text s)
 abbrev pub head_synced : List ℕ → State → State
 head_synced text s = after_sync_dir [] (head_renamed text s)
 
--- A disk after a stop: this map is there, and a crash leaves no other.
+-- A disk after a stop: this map is there, and a crash leaves no other, however often a possibility is listed.
 pub record IsAlone (m : FileMap) (s : State) : Type 0 where
   pub present : (path : Text) → s.present path ≡ m path
-  pub may : (path : Text) → s.may path ≡ Some (m path ∷ [])
+  pub may : (path : Text) (v : Content) → Allows (s.may path) v → v ≡ m path
 
 module _ {X : Type 0} (Stands : FileMap → List X → Type 0) where
   -- A clear disk of which a crash leaves only what stands for the list.

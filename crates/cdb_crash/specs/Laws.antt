@@ -1,19 +1,19 @@
 -- The laws of what a crash leaves. The parameters say which maps stand for which lists, which maps have all files of one
 -- publication more, and what the head's file has.
-use Rattle.std.specs.Prelude.{◌≡◌, ℕ, ◌+◌, ◌-◌, ◌≤◌, Bool, false, List, [], ◌∷◌, ◌++◌, length, slice_get, None, Some, IsTrue}
+use Rattle.std.specs.Prelude.{◌≡◌, ℕ, ◌+◌, ◌-◌, ◌≤◌, ◌<◌, Bool, false, List, [], ◌∷◌, ◌++◌, length, slice_get, None, Some, IsTrue}
 use Rattle.cdb_grid.specs.declared.tile.Tile.{Tile}
 use Rattle.cdb_source.specs.Reached.{IsTouched}
 use Rattle.cdb_source.specs.declared.source.Source.{Source}
 use Rattle.cdb_model.specs.Maps.{Text, FileMap, IsThere, put, folder_above, NoneUnder}
 use Rattle.cdb_model.specs.Names.{version_folder, head_path, new_head_path}
-use Rattle.cdb_model.specs.Machine.{heads_of}
+use Rattle.cdb_model.specs.Publications.{heads_of, step_count}
 use Rattle.cdb_model.specs.Records.{head_file_text}
 use Rattle.cdb_model.specs.Stands.{ArePublications, IsVersionFile, Stands as store}
 use Rattle.cdb_files.specs.Disk.{State, IsImage, IsSettledAt, after_create, after_append, after_sync_file, after_sync_dir, after_rename, after_remove, after_make_dir, Fails, FailsAppend, FailsMakeDir}
 use Rattle.cdb_files.specs.Moments.{IsBetween}
 use Rattle.cdb_files.specs.Whole.{IsImageBut, after_write}
 use Rattle.cdb_crash.specs.Leftovers.{IsOfVersion, IsLeftover, HasAtMost, HasNext}
-use Rattle.cdb_crash.specs.Plan.{Step, files_of, folders_of, steps_of, after_step, after_steps, WritesTo, IsMidAfter}
+use Rattle.cdb_crash.specs.Plan.{File, Step, files_of, folders_of, steps_of, after_step, after_steps, WritesTo, IsMidAfter}
 use Rattle.cdb_crash.specs.Recovery.{after_removals, AreLeft, after_barrier}
 use Rattle.cdb_crash.specs.Crash.{IsClear, with_folder, head_filled, head_renamed, head_synced, IsAlone, IsWhole, IsClean, IsMid, HasRoom, IsEither, IsFaulted, IsClearing, IsReady}
 
@@ -52,14 +52,14 @@ pub record ClearStays : Type 0 where
   pub no_new_head : (s : State) → IsClear s → ClearKept (after_remove new_head_path s) (Fails s (after_remove new_head_path s))
   pub rename : (s : State) → IsClear s → ClearKept (after_rename new_head_path head_path s) (Fails s (after_rename new_head_path head_path s))
 
--- Each file of a version lies under the version's folder, no path lies under two of these folders, and neither head under
--- any.
+-- For versions up to 4,097: each file of a version lies under the version's folder, no path lies under two of these
+-- folders, and neither head under any.
 pub record OwnPaths : Type 0 where
   pub files : (earlier : List (List Source)) (sources : List Source) (tiles : List Tile) (path : Text) (bytes : List ℕ)
-      → IsVersionFile earlier sources tiles path bytes → IsOfVersion (length earlier + 1) path
-  pub apart : (j k : ℕ) (path : Text) → IsOfVersion j path → IsOfVersion k path → j ≡ k
-  pub head : (k : ℕ) → IsOfVersion k head_path → ⊥
-  pub new_head : (k : ℕ) → IsOfVersion k new_head_path → ⊥
+      → length earlier + 1 ≤ 4097 → IsVersionFile earlier sources tiles path bytes → IsOfVersion (length earlier + 1) path
+  pub apart : (j k : ℕ) (path : Text) → j ≤ 4097 → k ≤ 4097 → IsOfVersion j path → IsOfVersion k path → j ≡ k
+  pub head : (k : ℕ) → k ≤ 4097 → IsOfVersion k head_path → ⊥
+  pub new_head : (k : ℕ) → k ≤ 4097 → IsOfVersion k new_head_path → ⊥
 
 -- A disk that was never written.
 abbrev pub empty_disk : State
@@ -90,7 +90,7 @@ module _ {X : Type 0} (Stands : FileMap → List X → Type 0) where
     pub whole : (P : List X) (s : State) → IsImage s s.present → IsWhole Stands P s → HasRoom Stands P new_head_path s
     pub middle : (P : List X) (files : FileMap) (synced : Text → Bool) (s : State) (path : Text) → IsMid Stands P files synced s
         → HasAtMost 65535 (length P + 1) files → HasRoom Stands P path s
-    pub clearing : (P : List X) (count : ℕ) (s : State) (path : Text) → count ≤ 65536 → IsClearing Stands P count s → IsThere (s.present path) → HasRoom Stands P path s
+    pub clearing : (P : List X) (count : ℕ) (s : State) (path : Text) → count ≤ 65536 → IsImage s s.present → IsClearing Stands P count s → IsThere (s.present path) → HasRoom Stands P path s
 
   -- A publication begins on a clean disk: the middle with no file yet is a clean disk.
   pub record BeginsClean : Type 0 where
@@ -159,7 +159,8 @@ module _ {X : Type 0} (Stands : FileMap → List X → Type 0) (Complete : List 
   HeadStep head_text = (P : List X) (x : X) (s : State) → IsImage s s.present → IsReady Stands Complete P x s → HeadCalls (head_text (length P + 1)) P x s
 
 -- The steps of one publication before its head, from a clean disk to where the head alone is left. A step writes under
--- the next version alone, there is room for its calls, and at each of their moments a crash leaves the old list.
+-- the next version alone, there is room for its calls, and at each of their moments a crash leaves the old list. A file
+-- that a step has written is there with its bytes.
 pub record PlanKeeps (P : List (List Source)) (x : List Source) (tiles : List Tile) : Type 0 where
   pub begins : (s : State) → IsImage s s.present → IsClean store P s → IsMidAfter P x tiles 0 s
   pub under : (number : ℕ) (step : Step) → slice_get (steps_of P x tiles) number ≡ Some step → (path : Text) → WritesTo path step → IsOfVersion (length P + 1) path
@@ -168,8 +169,11 @@ pub record PlanKeeps (P : List (List Source)) (x : List Source) (tiles : List Ti
       → IsMidAfter P x tiles number s → (path : Text) → WritesTo path step → PathCalls (λ m. store m P) path s
   pub step : (number : ℕ) (step : Step) (s : State) → slice_get (steps_of P x tiles) number ≡ Some step → IsImage s s.present
       → IsMidAfter P x tiles number s → IsMidAfter P x tiles (number + 1) (after_step step s)
+  pub there : (i number : ℕ) (s : State) (file : File) → IsMidAfter P x tiles number s → slice_get (steps_of P x tiles) i ≡ Some (Step.write file) → i < number
+      → s.present file.path ≡ Some file.bytes
   pub ready : (s : State) → IsImage s s.present → IsMidAfter P x tiles (length (steps_of P x tiles)) s → IsReady store HasNext P x s
   pub count : length (steps_of P x tiles) + 1 ≡ length x + length tiles + length (folders_of (files_of P x tiles)) + 2
+  pub steps : length (steps_of P x tiles) + 1 ≡ step_count P x tiles
 
 abbrev pub PlanSteps : Type 0
 PlanSteps = (P : List (List Source)) (x : List Source) (tiles : List Tile) → ArePublications (P ++ x ∷ []) → IsTouched (heads_of x) tiles → PlanKeeps P x tiles

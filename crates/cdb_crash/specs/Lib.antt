@@ -3,3 +3,4 @@ pub mod Crash
 pub mod Plan
 pub mod Recovery
 pub mod Laws
+pub mod StepLaws

@@ -1,12 +1,12 @@
 -- The steps of a publication before its head, in their order, and what each makes of a disk.
-use Rattle.std.specs.Prelude.{◌≡◌, ℕ, ◌+◌, Bool, false, not, List, [], ◌∷◌, ◌++◌, length, take, map, filter, fold, None, Some}
-use Rattle.std.specs.Str.{bytes_eq}
+use Rattle.std.specs.Prelude.{◌≡◌, ℕ, ◌+◌, Bool, false, List, [], ◌∷◌, ◌++◌, length, take, map, fold, None, Some}
 use Rattle.cdb_grid.specs.declared.tile.Tile.{Tile}
 use Rattle.cdb_source.specs.Texts.{source_text}
 use Rattle.cdb_source.specs.declared.source.Source.{Source}
 use Rattle.cdb_model.specs.Machine.{heads_of, sources_of}
 use Rattle.cdb_model.specs.Maps.{Text, FileMap, put, folder_above}
 use Rattle.cdb_model.specs.Names.{record_path, source_path, path}
+pub use Rattle.cdb_model.specs.Publications.{each_once}
 use Rattle.cdb_model.specs.Records.{record_text}
 use Rattle.cdb_model.specs.Stands.{Stands}
 use Rattle.cdb_model.specs.TileFile.{tile_bytes}
@@ -43,11 +43,6 @@ files_of P x tiles = source_files (length P + 1) 1 x ++ map (tile_file (length P
 -- Its record.
 abbrev pub record_of : List (List Source) → List Source → List Tile → File
 record_of P x tiles = record { path = record_path (length P + 1); bytes = record_text (length P + 1) (heads_of x) tiles }
-
--- Each folder once, where it stands first.
-abbrev pub each_once : List Text → List Text
-each_once [] = []
-each_once (folder ∷ folders) = folder ∷ filter (λ other. not (bytes_eq other folder)) (each_once folders)
 
 -- The folders that these files lie in, each once, in the order of first use.
 abbrev pub folders_of : List File → List Text

@@ -2,7 +2,9 @@
 //! contract is the law. A disk here is a state of one, whatever made it.
 ghost use Rattle.cdb_model.specs.Stands.{Stands};
 ghost use Rattle.cdb_model.specs.Records.{head_file_text};
+ghost use Rattle.cdb_model.specs.ByteLaws.{BytesByReaching};
 ghost use Rattle.cdb_crash.specs.Leftovers.{HasNext};
+ghost use Rattle.cdb_crash.specs.StepLaws.{StepNumbers, NewestFiles, FilledHead, FailedWrites};
 ghost use Rattle.cdb_crash.specs.Laws.{OwnPaths, OneList, EmptyStore, FolderCalls, LeftoverCalls, ClearStays, Room, BeginsClean, FileStep, FolderStep, RecordStep, ReadyStep, HeadStep, PlanSteps, Publishes, EveryList, WholeStays, Clearing, Recovers, AfterFault, AfterStop};
 
 /// The files of a version lie under its folder, the folders of two versions have no path in
@@ -85,6 +87,28 @@ pub fn head_step()
 /// sources, the touched tiles, the folders of both, and two.
 pub fn plan_steps()
     ensures { PlanSteps }
+{}
+
+/// Which step of a publication has a number: the sources come first, then the tiles, then the folders
+/// of both, and the record is the last one.
+pub fn step_numbers()
+    ensures { StepNumbers }
+{}
+
+/// In which file a tile stands, and with which bytes: in that of the last version that touches it.
+pub fn newest_files()
+    ensures { BytesByReaching → NewestFiles }
+{}
+
+/// The new head, once it is written, is there, and a crash leaves it so or absent, on any disk.
+pub fn filled_head()
+    ensures { FilledHead }
+{}
+
+/// What a write leaves that failed: made folders stay, the file is as before or has a first part of
+/// its bytes, and a clear disk is clear, unless it was `create` that failed.
+pub fn failed_writes()
+    ensures { FailedWrites }
 {}
 
 /// All steps in a row, and then the head, lead from a clean disk to a clean disk of the list with
