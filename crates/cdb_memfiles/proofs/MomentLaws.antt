@@ -1,5 +1,5 @@
 -- What one call more makes of a history: the states, and the images since each moment.
-use Rattle.std.proofs.Common.{◌≡◌, ℕ, ◌+◌, ◌<◌, ◌≤◌, ◌⊎◌, inl, inr, List, [], ◌∷◌, ◌++◌, length, take, Vec, refl, sym, ap, ◌∙◌, subst, arith, length-append}
+use Rattle.std.proofs.Common.{◌≡◌, ℕ, ◌+◌, ◌<◌, ◌≤◌, ◌⊎◌, inl, inr, List, [], ◌∷◌, ◌++◌, length, take, Vec, Ok, Err, refl, sym, ap, ◌∙◌, subst, arith, length-append}
 use Rattle.std.proofs.lemmas.Bool.{cases_lt, or_left}
 use Rattle.std.proofs.lemmas.List.{take-append-le, take_all}
 use Rattle.std.specs.declared.alloc.Global.{Global}
@@ -11,6 +11,9 @@ use Rattle.cdb_memfiles.specs.declared.call.Call.{Call}
 use Rattle.cdb_memfiles.specs.declared.call.Call.TheVariants.{Append}
 use Rattle.cdb_memfiles.specs.History.{apply, replay, HasBeen}
 use Rattle.cdb_memfiles.specs.HistoryLaws.{replay-push}
+use Rattle.cdb_memfiles.specs.Calls.{Changes}
+use Rattle.cdb_memfiles.specs.MemDisk.{history, state_of, clock_of, since_of}
+use Rattle.cdb_memfiles.specs.declared.mem_disk.MemDisk.{MemDisk}
 
 pub elapses_push : (calls later : List Call) (call : Call) → later ≡ calls ++ call ∷ []
     → Elapses (length calls) (length later) (HasBeen calls) (HasBeen later) (IsBetween (replay calls) (apply call (replay calls)))
@@ -80,4 +83,38 @@ fails_make_dir-same folder old new e = record {
   may = ap (λ s. s.may) e;
   kept = λ q h. ap (λ s. s.made q) e ∙ h;
   some = λ q h. or_left (old.made q) (is_at_or_above q folder) (sym (ap (λ s. s.made q) e) ∙ h);
+}
+
+-- ---- a call of a disk in memory
+-- One call more, which is answered with Ok.
+pub changes_push : {T E : Type 0} {Leaves : State → State → State → Type 0} {v : T} {old new : MemDisk} (call : Call) → history new ≡ history old ++ call ∷ []
+    → Changes state_of clock_of since_of {T = T} {E = E} (apply call) Leaves old new (Ok v)
+changes_push {old = old} {new = new} call e = record {
+  ok = state_push (history old) (history new) call e;
+  err = tt;
+  time = elapses_push (history old) (history new) call e;
+  moves = inr (omega (arith, ap length e ∙ length-append (history old) (call ∷ [])));
+}
+
+-- The same of an append, by the bytes of its piece.
+pub changes_append : {T E : Type 0} {Leaves : State → State → State → Type 0} {v : T} {old new : MemDisk} (path : ArrayString) (piece : List ℕ) (bytes : Vec ℕ Global)
+    → bytes.items ≡ piece → history new ≡ history old ++ Append path bytes ∷ []
+    → Changes state_of clock_of since_of {T = T} {E = E} (after_append path.bytes piece) Leaves old new (Ok v)
+changes_append {T = T} {E = E} {Leaves = Leaves} {v = v} {old = old} {new = new} path piece bytes same e =
+    let P : List ℕ → Type 0 = λ xs. Changes state_of clock_of since_of {T = T} {E = E} (after_append path.bytes xs) Leaves old new (Ok v) in
+    subst P same (changes_push (Append path bytes) e)
+
+-- A call that fails and is not noted.
+pub changes_none : {T E : Type 0} {after : State → State} {Leaves : State → State → State → Type 0} {x : E} {old new : MemDisk} → history new ≡ history old
+    → Leaves (state_of old) (after (state_of old)) (state_of new)
+    → Changes state_of clock_of since_of {T = T} {E = E} after Leaves old new (Err x)
+changes_none {old = old} {new = new} e leaves = record {
+  ok = tt;
+  err = leaves;
+  time = record {
+    later = omega (arith, ap length e);
+    nothing_else = λ t m le been. inl (let P : List Call → Type 0 = λ c. HasBeen c t m in subst P e been);
+    keeps = λ t m le been. (let P : List Call → Type 0 = λ c. HasBeen c t m in subst P (sym e) been);
+  };
+  moves = inl (ap (λ c. (replay c).present) e, ap (λ c. (replay c).may) e);
 }

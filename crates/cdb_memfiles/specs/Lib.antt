@@ -1,4 +1,5 @@
 pub mod Files
+pub mod Calls
 pub mod History
 pub mod Schedule
 pub mod Shelf

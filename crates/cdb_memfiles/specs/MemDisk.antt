@@ -1,6 +1,6 @@
 -- A disk in memory: what it did, and its counts.
 use Rattle.std.specs.Prelude.{◌≡◌, ℕ, ◌⊎◌, List, length, Result, OnOk, OnErr, IsErr, IsTrue}
-use Rattle.cdb_model.specs.Causes.{Rose}
+use Rattle.cdb_model.specs.Causes.{Rose, HasCause}
 use Rattle.cdb_model.specs.Maps.{FileMap}
 use Rattle.cdb_files.specs.Disk.{State}
 use Rattle.cdb_memfiles.specs.declared.call.Call.{Call}
@@ -34,11 +34,14 @@ clock_of disk = length (history disk)
 abbrev pub since_of : MemDisk → ℕ → FileMap → Type 0
 since_of disk = HasBeen (history disk)
 
--- A call that changes the disk fails where it is listed, and else only where a growth was refused.
+-- A call that changes the disk fails where it is listed, and else only where a growth was refused; and where it fails, nothing
+-- has changed.
 pub record WritesAsListed {T E : Type 0} (old new : MemDisk) (result : Result T E) : Type 0 where
   pub numbered : IsNumbered (schedule_of old) (schedule_of new)
+  pub cause : HasCause (schedule_of old).faults (schedule_of new).faults result
   pub listed : IsTrue (fails_next (schedule_of old)) → IsErr result × (refused_of new ≡ refused_of old)
   pub why : OnErr result (IsTrue (fails_next (schedule_of old)) ⊎ Rose (refused_of old) (refused_of new))
+  pub unchanged : OnErr result (history new ≡ history old)
   pub ok : OnOk result (((schedule_of new).faults ≡ (schedule_of old).faults) × (refused_of new ≡ refused_of old))
   pub err : OnErr result ((schedule_of new).faults ≡ one_more (schedule_of old).faults)
   pub reads : reads_of new ≡ reads_of old

@@ -1,6 +1,7 @@
 -- Calls that are numbered from 1, of which those in a list fail.
 use Rattle.std.specs.Prelude.{◌≡◌, ℕ, ◌+◌, ◌-◌, ◌^◌, ◌==◌, Bool, min, Result, OnOk, OnErr, IsErr, IsTrue, ◌↔◌}
 use Rattle.std.specs.List.{list_any}
+use Rattle.cdb_model.specs.Causes.{HasCause}
 use Rattle.cdb_memfiles.specs.declared.schedule.Schedule.{Schedule}
 
 -- One more, or the last value of a count, where it stays.
@@ -18,6 +19,7 @@ pub record IsNumbered (old new : Schedule) : Type 0 where
 
 -- A call that fails where the list says so, and adds one to the count of faults then.
 pub record FailsAsListed {T E : Type 0} (old new : Schedule) (result : Result T E) : Type 0 where
+  pub cause : HasCause old.faults new.faults result
   pub numbered : IsNumbered old new
   pub listed : IsErr result ↔ IsTrue (fails_next old)
   pub ok : OnOk result (new.faults ≡ old.faults)

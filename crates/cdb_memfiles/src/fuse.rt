@@ -1,8 +1,8 @@
-ghost use Rattle.std.specs.Prelude.{◌≡◌, ◌≢◌, ◌≤◌, ◌+◌, ◌-◌, ◌↔◌, length, IsErr, IfOk, OnOk, OnErr, MatchOption};
+ghost use Rattle.std.specs.Prelude.{◌≡◌, ◌≢◌, ◌≤◌, ◌+◌, ◌-◌, ◌↔◌, length, IsErr, OnOk, OnErr};
 ghost use Rattle.cdb_model.specs.Causes.{HasCause};
-ghost use Rattle.cdb_model.specs.Maps.{folder_above, size_of, Reaches, HasAt, IsThere, NoneUnder, IsFirstUnder};
-ghost use Rattle.cdb_files.specs.Disk.{IsMade, IsSettledAt, after_create, after_append, after_sync_file, after_sync_dir, after_rename, after_remove, after_make_dir, Fails, FailsAppend, FailsMakeDir, Moves};
-ghost use Rattle.cdb_files.specs.Moments.{IsBetween, Elapses, Rests};
+ghost use Rattle.cdb_model.specs.Maps.{folder_above, Reaches, IsThere};
+ghost use Rattle.cdb_files.specs.Disk.{IsMade, IsSettledAt, after_create, after_append, after_sync_file, after_sync_dir, after_rename, after_remove, after_make_dir, Fails, FailsMakeDir};
+ghost use Rattle.cdb_memfiles.specs.Calls.{TellsSize, GivesBytes, TellsFirst, Reads, Changes, Stays, AddsPart};
 ghost use Rattle.cdb_memfiles.specs.Schedule.{one_more};
 
 use crate::mem_disk::MemDisk;
@@ -62,6 +62,19 @@ fn spend(left: &mut u64, faults: &mut u64) -> Result<(), Failed>
     Ok(())
 }
 
+/// The answer of the disk, whose failure counts.
+fn counted<T>(faults: &mut u64, answer: Result<T, Failed>) -> Result<T, Failed>
+    ensures same { result ≡ answer }
+    ensures ok { OnOk answer (faults.new ≡ faults.old) }
+    ensures err { OnErr answer (faults.new ≡ one_more faults.old) }
+    ensures later { faults.old ≤ faults.new }
+{
+    if answer.is_err() {
+        fault(faults);
+    }
+    answer
+}
+
 /// One fault more.
 fn fault(faults: &mut u64)
     ensures more { faults.new ≡ one_more faults.old }
@@ -90,163 +103,89 @@ impl<D: Disk> Disk for Fuse<D> {
     }
 
     fn size(&mut self, path: &Path) -> Result<Option<u64>, Failed>
-        ensures size { D.tells → IfOk result (λ size. size ≡ size_of ((D.state (inner_of self.old)).present path.now.bytes)) }
-        ensures state { D.state (inner_of self.new) ≡ D.state (inner_of self.old) }
-        ensures time { Rests (D.clock (inner_of self.old)) (D.clock (inner_of self.new)) (D.since (inner_of self.old)) (D.since (inner_of self.new)) }
-        ensures cause { HasCause (fuse_faults self.old) (fuse_faults self.new) result }
+        ensures size { D.tells → TellsSize (D.state (inner_of self.old)).present path.now.bytes result }
+        ensures rests { Reads D.state D.clock D.since (inner_of self.old) (inner_of self.new) }
         ensures reads { D.read_count (inner_of self.new) ≡ D.read_count (inner_of self.old) }
         ensures fused { IsFused D.fault_count self.old self.new result }
     {
         spend(&mut self.left, &mut self.faults)?;
-        match self.disk.size(path) {
-            Ok(size) => Ok(size),
-            Err(Failed) => {
-                fault(&mut self.faults);
-                Err(Failed)
-            }
-        }
+        counted(&mut self.faults, self.disk.size(path))
     }
 
     fn read_at(&mut self, path: &Path, at: u64, into: &mut [u8]) -> Result<(), Failed>
         requires { D.tells → Reaches ((D.state (inner_of self.old)).present path.now.bytes) at (length into.old) }
-        ensures bytes { D.tells → OnOk result (HasAt ((D.state (inner_of self.old)).present path.now.bytes) at into.new) }
+        ensures bytes { D.tells → GivesBytes (D.state (inner_of self.old)).present path.now.bytes at into.new result }
         ensures kept { calls_left self.old ≡ 0 → into.new ≡ into.old }
-        ensures state { D.state (inner_of self.new) ≡ D.state (inner_of self.old) }
-        ensures time { Rests (D.clock (inner_of self.old)) (D.clock (inner_of self.new)) (D.since (inner_of self.old)) (D.since (inner_of self.new)) }
-        ensures cause { HasCause (fuse_faults self.old) (fuse_faults self.new) result }
-        ensures reads { (D.read_count (inner_of self.old) ≤ D.read_count (inner_of self.new)) × (D.read_count (inner_of self.new) ≤ D.read_count (inner_of self.old) + 1) }
+        ensures rests { Reads D.state D.clock D.since (inner_of self.old) (inner_of self.new) }
+        ensures reads { (D.read_count (inner_of self.old) ≤ D.read_count (inner_of self.new))
+            × (D.read_count (inner_of self.new) ≤ D.read_count (inner_of self.old) + 1) }
         ensures fused { IsFused D.fault_count self.old self.new result }
     {
         spend(&mut self.left, &mut self.faults)?;
-        match self.disk.read_at(path, at, into) {
-            Ok(()) => Ok(()),
-            Err(Failed) => {
-                fault(&mut self.faults);
-                Err(Failed)
-            }
-        }
+        counted(&mut self.faults, self.disk.read_at(path, at, into))
     }
 
     fn first_under(&mut self, folder: &Path) -> Result<Option<Path>, Failed>
-        ensures first { D.tells → IfOk result (λ found. MatchOption found (NoneUnder (D.state (inner_of self.old)).present folder.now.bytes)
-            (λ path. IsFirstUnder (D.state (inner_of self.old)).present folder.now.bytes path.bytes)) }
-        ensures state { D.state (inner_of self.new) ≡ D.state (inner_of self.old) }
-        ensures time { Rests (D.clock (inner_of self.old)) (D.clock (inner_of self.new)) (D.since (inner_of self.old)) (D.since (inner_of self.new)) }
-        ensures cause { HasCause (fuse_faults self.old) (fuse_faults self.new) result }
+        ensures first { D.tells → TellsFirst (D.state (inner_of self.old)).present folder.now.bytes result }
+        ensures rests { Reads D.state D.clock D.since (inner_of self.old) (inner_of self.new) }
         ensures reads { D.read_count (inner_of self.new) ≡ D.read_count (inner_of self.old) }
         ensures fused { IsFused D.fault_count self.old self.new result }
     {
         spend(&mut self.left, &mut self.faults)?;
-        match self.disk.first_under(folder) {
-            Ok(found) => Ok(found),
-            Err(Failed) => {
-                fault(&mut self.faults);
-                Err(Failed)
-            }
-        }
+        counted(&mut self.faults, self.disk.first_under(folder))
     }
 
     fn make_dir(&mut self, folder: &Path) -> Result<(), Failed>
-        ensures ok { D.tells → OnOk result (D.state (inner_of self.new) ≡ after_make_dir folder.now.bytes (D.state (inner_of self.old))) }
-        ensures err { D.tells → OnErr result (FailsMakeDir (D.state (inner_of self.old)) (after_make_dir folder.now.bytes (D.state (inner_of self.old))) (D.state (inner_of self.new))) }
-        ensures time { D.tells → Elapses (D.clock (inner_of self.old)) (D.clock (inner_of self.new)) (D.since (inner_of self.old)) (D.since (inner_of self.new))
-            (IsBetween (D.state (inner_of self.old)) (after_make_dir folder.now.bytes (D.state (inner_of self.old)))) }
-        ensures moves { D.tells → Moves (D.clock (inner_of self.old)) (D.clock (inner_of self.new)) (D.state (inner_of self.old)) (D.state (inner_of self.new)) }
-        ensures cause { HasCause (fuse_faults self.old) (fuse_faults self.new) result }
+        ensures changes { D.tells → Changes D.state D.clock D.since (after_make_dir folder.now.bytes) FailsMakeDir
+            (inner_of self.old) (inner_of self.new) result }
         ensures reads { D.read_count (inner_of self.new) ≡ D.read_count (inner_of self.old) }
         ensures fused { IsFused D.fault_count self.old self.new result }
     {
         spend(&mut self.left, &mut self.faults)?;
-        match self.disk.make_dir(folder) {
-            Ok(()) => Ok(()),
-            Err(Failed) => {
-                fault(&mut self.faults);
-                Err(Failed)
-            }
-        }
+        counted(&mut self.faults, self.disk.make_dir(folder))
     }
 
     fn create(&mut self, path: &Path) -> Result<(), Failed>
         requires { D.tells → IsMade (D.state (inner_of self.old)) (folder_above path.now.bytes) }
-        ensures ok { D.tells → OnOk result (D.state (inner_of self.new) ≡ after_create path.now.bytes (D.state (inner_of self.old))) }
-        ensures err { D.tells → OnErr result (Fails (D.state (inner_of self.old)) (after_create path.now.bytes (D.state (inner_of self.old))) (D.state (inner_of self.new))) }
-        ensures time { D.tells → Elapses (D.clock (inner_of self.old)) (D.clock (inner_of self.new)) (D.since (inner_of self.old)) (D.since (inner_of self.new))
-            (IsBetween (D.state (inner_of self.old)) (after_create path.now.bytes (D.state (inner_of self.old)))) }
-        ensures moves { D.tells → Moves (D.clock (inner_of self.old)) (D.clock (inner_of self.new)) (D.state (inner_of self.old)) (D.state (inner_of self.new)) }
-        ensures cause { HasCause (fuse_faults self.old) (fuse_faults self.new) result }
+        ensures changes { D.tells → Changes D.state D.clock D.since (after_create path.now.bytes) Fails
+            (inner_of self.old) (inner_of self.new) result }
         ensures reads { D.read_count (inner_of self.new) ≡ D.read_count (inner_of self.old) }
         ensures fused { IsFused D.fault_count self.old self.new result }
     {
         spend(&mut self.left, &mut self.faults)?;
-        match self.disk.create(path) {
-            Ok(()) => Ok(()),
-            Err(Failed) => {
-                fault(&mut self.faults);
-                Err(Failed)
-            }
-        }
+        counted(&mut self.faults, self.disk.create(path))
     }
 
     fn append(&mut self, path: &Path, piece: &[u8]) -> Result<(), Failed>
         requires { D.tells → IsThere ((D.state (inner_of self.old)).present path.now.bytes) }
-        ensures ok { D.tells → OnOk result (D.state (inner_of self.new) ≡ after_append path.now.bytes piece.now (D.state (inner_of self.old))) }
-        ensures err { D.tells → OnErr result (FailsAppend path.now.bytes piece.now (D.state (inner_of self.old)) (D.state (inner_of self.new))) }
-        ensures time { D.tells → Elapses (D.clock (inner_of self.old)) (D.clock (inner_of self.new)) (D.since (inner_of self.old)) (D.since (inner_of self.new))
-            (IsBetween (D.state (inner_of self.old)) (after_append path.now.bytes piece.now (D.state (inner_of self.old)))) }
-        ensures moves { D.tells → Moves (D.clock (inner_of self.old)) (D.clock (inner_of self.new)) (D.state (inner_of self.old)) (D.state (inner_of self.new)) }
-        ensures cause { HasCause (fuse_faults self.old) (fuse_faults self.new) result }
+        ensures changes { D.tells → Changes D.state D.clock D.since (after_append path.now.bytes piece.now)
+            (AddsPart path.now.bytes piece.now) (inner_of self.old) (inner_of self.new) result }
         ensures reads { D.read_count (inner_of self.new) ≡ D.read_count (inner_of self.old) }
         ensures fused { IsFused D.fault_count self.old self.new result }
     {
         spend(&mut self.left, &mut self.faults)?;
-        match self.disk.append(path, piece) {
-            Ok(()) => Ok(()),
-            Err(Failed) => {
-                fault(&mut self.faults);
-                Err(Failed)
-            }
-        }
+        counted(&mut self.faults, self.disk.append(path, piece))
     }
 
     fn sync_file(&mut self, path: &Path) -> Result<(), Failed>
         requires { D.tells → IsThere ((D.state (inner_of self.old)).present path.now.bytes) }
-        ensures ok { D.tells → OnOk result (D.state (inner_of self.new) ≡ after_sync_file path.now.bytes (D.state (inner_of self.old))) }
-        ensures err { D.tells → OnErr result (D.state (inner_of self.new) ≡ D.state (inner_of self.old)) }
-        ensures time { D.tells → Elapses (D.clock (inner_of self.old)) (D.clock (inner_of self.new)) (D.since (inner_of self.old)) (D.since (inner_of self.new))
-            (IsBetween (D.state (inner_of self.old)) (after_sync_file path.now.bytes (D.state (inner_of self.old)))) }
-        ensures moves { D.tells → Moves (D.clock (inner_of self.old)) (D.clock (inner_of self.new)) (D.state (inner_of self.old)) (D.state (inner_of self.new)) }
-        ensures cause { HasCause (fuse_faults self.old) (fuse_faults self.new) result }
+        ensures changes { D.tells → Changes D.state D.clock D.since (after_sync_file path.now.bytes) Stays
+            (inner_of self.old) (inner_of self.new) result }
         ensures reads { D.read_count (inner_of self.new) ≡ D.read_count (inner_of self.old) }
         ensures fused { IsFused D.fault_count self.old self.new result }
     {
         spend(&mut self.left, &mut self.faults)?;
-        match self.disk.sync_file(path) {
-            Ok(()) => Ok(()),
-            Err(Failed) => {
-                fault(&mut self.faults);
-                Err(Failed)
-            }
-        }
+        counted(&mut self.faults, self.disk.sync_file(path))
     }
 
     fn sync_dir(&mut self, folder: &Path) -> Result<(), Failed>
-        ensures ok { D.tells → OnOk result (D.state (inner_of self.new) ≡ after_sync_dir folder.now.bytes (D.state (inner_of self.old))) }
-        ensures err { D.tells → OnErr result (D.state (inner_of self.new) ≡ D.state (inner_of self.old)) }
-        ensures time { D.tells → Elapses (D.clock (inner_of self.old)) (D.clock (inner_of self.new)) (D.since (inner_of self.old)) (D.since (inner_of self.new))
-            (IsBetween (D.state (inner_of self.old)) (after_sync_dir folder.now.bytes (D.state (inner_of self.old)))) }
-        ensures moves { D.tells → Moves (D.clock (inner_of self.old)) (D.clock (inner_of self.new)) (D.state (inner_of self.old)) (D.state (inner_of self.new)) }
-        ensures cause { HasCause (fuse_faults self.old) (fuse_faults self.new) result }
+        ensures changes { D.tells → Changes D.state D.clock D.since (after_sync_dir folder.now.bytes) Stays
+            (inner_of self.old) (inner_of self.new) result }
         ensures reads { D.read_count (inner_of self.new) ≡ D.read_count (inner_of self.old) }
         ensures fused { IsFused D.fault_count self.old self.new result }
     {
         spend(&mut self.left, &mut self.faults)?;
-        match self.disk.sync_dir(folder) {
-            Ok(()) => Ok(()),
-            Err(Failed) => {
-                fault(&mut self.faults);
-                Err(Failed)
-            }
-        }
+        counted(&mut self.faults, self.disk.sync_dir(folder))
     }
 
     fn rename(&mut self, from: &Path, to: &Path) -> Result<(), Failed>
@@ -254,43 +193,23 @@ impl<D: Disk> Disk for Fuse<D> {
         requires differ { from.now.bytes ≢ to.now.bytes }
         requires there { D.tells → IsThere ((D.state (inner_of self.old)).present from.now.bytes) }
         requires settled { D.tells → IsSettledAt (D.state (inner_of self.old)) from.now.bytes }
-        ensures ok { D.tells → OnOk result (D.state (inner_of self.new) ≡ after_rename from.now.bytes to.now.bytes (D.state (inner_of self.old))) }
-        ensures err { D.tells → OnErr result (Fails (D.state (inner_of self.old)) (after_rename from.now.bytes to.now.bytes (D.state (inner_of self.old))) (D.state (inner_of self.new))) }
-        ensures time { D.tells → Elapses (D.clock (inner_of self.old)) (D.clock (inner_of self.new)) (D.since (inner_of self.old)) (D.since (inner_of self.new))
-            (IsBetween (D.state (inner_of self.old)) (after_rename from.now.bytes to.now.bytes (D.state (inner_of self.old)))) }
-        ensures moves { D.tells → Moves (D.clock (inner_of self.old)) (D.clock (inner_of self.new)) (D.state (inner_of self.old)) (D.state (inner_of self.new)) }
-        ensures cause { HasCause (fuse_faults self.old) (fuse_faults self.new) result }
+        ensures changes { D.tells → Changes D.state D.clock D.since (after_rename from.now.bytes to.now.bytes) Fails
+            (inner_of self.old) (inner_of self.new) result }
         ensures reads { D.read_count (inner_of self.new) ≡ D.read_count (inner_of self.old) }
         ensures fused { IsFused D.fault_count self.old self.new result }
     {
         spend(&mut self.left, &mut self.faults)?;
-        match self.disk.rename(from, to) {
-            Ok(()) => Ok(()),
-            Err(Failed) => {
-                fault(&mut self.faults);
-                Err(Failed)
-            }
-        }
+        counted(&mut self.faults, self.disk.rename(from, to))
     }
 
     fn remove(&mut self, path: &Path) -> Result<(), Failed>
-        ensures ok { D.tells → OnOk result (D.state (inner_of self.new) ≡ after_remove path.now.bytes (D.state (inner_of self.old))) }
-        ensures err { D.tells → OnErr result (Fails (D.state (inner_of self.old)) (after_remove path.now.bytes (D.state (inner_of self.old))) (D.state (inner_of self.new))) }
-        ensures time { D.tells → Elapses (D.clock (inner_of self.old)) (D.clock (inner_of self.new)) (D.since (inner_of self.old)) (D.since (inner_of self.new))
-            (IsBetween (D.state (inner_of self.old)) (after_remove path.now.bytes (D.state (inner_of self.old)))) }
-        ensures moves { D.tells → Moves (D.clock (inner_of self.old)) (D.clock (inner_of self.new)) (D.state (inner_of self.old)) (D.state (inner_of self.new)) }
-        ensures cause { HasCause (fuse_faults self.old) (fuse_faults self.new) result }
+        ensures changes { D.tells → Changes D.state D.clock D.since (after_remove path.now.bytes) Fails
+            (inner_of self.old) (inner_of self.new) result }
         ensures reads { D.read_count (inner_of self.new) ≡ D.read_count (inner_of self.old) }
         ensures fused { IsFused D.fault_count self.old self.new result }
     {
         spend(&mut self.left, &mut self.faults)?;
-        match self.disk.remove(path) {
-            Ok(()) => Ok(()),
-            Err(Failed) => {
-                fault(&mut self.faults);
-                Err(Failed)
-            }
-        }
+        counted(&mut self.faults, self.disk.remove(path))
     }
 
     ghost present_possible = { λ fuse told. D.present_possible (inner_of fuse) told };

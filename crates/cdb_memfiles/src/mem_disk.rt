@@ -1,8 +1,7 @@
-ghost use Rattle.std.specs.Prelude.{◌≡◌, ◌≢◌, ◌≤◌, ◌+◌, ℕ, [], length, IfOk, OnOk, OnErr, MatchOption};
-ghost use Rattle.cdb_model.specs.Causes.{HasCause};
-ghost use Rattle.cdb_model.specs.Maps.{FileMap, folder_above, size_of, Reaches, HasAt, IsThere, NoneUnder, IsFirstUnder};
-ghost use Rattle.cdb_files.specs.Disk.{State, IsImage, after_create, after_append, after_sync_file, after_sync_dir, after_rename, after_remove, after_make_dir, Fails, FailsAppend, FailsMakeDir, Moves};
-ghost use Rattle.cdb_files.specs.Moments.{IsBetween, Elapses, Rests};
+ghost use Rattle.std.specs.Prelude.{◌≡◌, ◌≢◌, ◌≤◌, [], length, IfOk, OnErr};
+ghost use Rattle.cdb_model.specs.Maps.{Reaches, IsThere};
+ghost use Rattle.cdb_files.specs.Disk.{IsImage, after_create, after_append, after_sync_file, after_sync_dir, after_rename, after_remove, after_make_dir, Fails, FailsMakeDir};
+ghost use Rattle.cdb_memfiles.specs.Calls.{TellsSize, GivesBytes, TellsFirst, Changes, Stays, AddsPart};
 ghost use Rattle.cdb_memfiles.specs.Crash.{IsCrashed};
 ghost use Rattle.cdb_memfiles.specs.HistoryLaws.{present_is_possible, counts_now_too, nothing_later};
 ghost use Rattle.cdb_memfiles.specs.Schedule.{one_more};
@@ -124,8 +123,7 @@ impl Disk for MemDisk {
     }
 
     fn size(&mut self, path: &Path) -> Result<Option<u64>, Failed>
-        ensures size { IfOk result (λ size. size ≡ size_of ((state_of self.old).present path.now.bytes)) }
-        ensures cause { HasCause (schedule_of self.old).faults (schedule_of self.new).faults result }
+        ensures size { TellsSize (state_of self.old).present path.now.bytes result }
         ensures listed { ReadsAsListed self.old self.new result }
         ensures reads { reads_of self.new ≡ reads_of self.old }
     {
@@ -135,9 +133,8 @@ impl Disk for MemDisk {
 
     fn read_at(&mut self, path: &Path, at: u64, into: &mut [u8]) -> Result<(), Failed>
         requires { Reaches ((state_of self.old).present path.now.bytes) at (length into.old) }
-        ensures bytes { OnOk result (HasAt ((state_of self.old).present path.now.bytes) at into.new) }
+        ensures bytes { GivesBytes (state_of self.old).present path.now.bytes at into.new result }
         ensures kept { OnErr result (into.new ≡ into.old) }
-        ensures cause { HasCause (schedule_of self.old).faults (schedule_of self.new).faults result }
         ensures listed { ReadsAsListed self.old self.new result }
         ensures reads { reads_of self.new ≡ one_more (reads_of self.old) }
         ensures later { reads_of self.old ≤ reads_of self.new }
@@ -149,9 +146,7 @@ impl Disk for MemDisk {
     }
 
     fn first_under(&mut self, folder: &Path) -> Result<Option<Path>, Failed>
-        ensures first { IfOk result (λ found. MatchOption found (NoneUnder (state_of self.old).present folder.now.bytes)
-            (λ path. IsFirstUnder (state_of self.old).present folder.now.bytes path.bytes)) }
-        ensures cause { HasCause (schedule_of self.old).faults (schedule_of self.new).faults result }
+        ensures first { TellsFirst (state_of self.old).present folder.now.bytes result }
         ensures listed { ReadsAsListed self.old self.new result }
         ensures reads { reads_of self.new ≡ reads_of self.old }
     {
@@ -160,13 +155,8 @@ impl Disk for MemDisk {
     }
 
     fn make_dir(&mut self, folder: &Path) -> Result<(), Failed>
-        ensures ok { OnOk result (state_of self.new ≡ after_make_dir folder.now.bytes (state_of self.old)) }
-        ensures unchanged { OnErr result (history self.new ≡ history self.old) }
-        ensures err { OnErr result (FailsMakeDir (state_of self.old) (after_make_dir folder.now.bytes (state_of self.old)) (state_of self.new)) }
-        ensures time { Elapses (clock_of self.old) (clock_of self.new) (since_of self.old) (since_of self.new)
-            (IsBetween (state_of self.old) (after_make_dir folder.now.bytes (state_of self.old))) }
-        ensures moves { Moves (clock_of self.old) (clock_of self.new) (state_of self.old) (state_of self.new) }
-        ensures cause { HasCause (schedule_of self.old).faults (schedule_of self.new).faults result }
+        ensures changes { Changes state_of clock_of since_of (after_make_dir folder.now.bytes) FailsMakeDir
+            self.old self.new result }
         ensures listed { WritesAsListed self.old self.new result }
     {
         self.schedule.begin()?;
@@ -177,12 +167,8 @@ impl Disk for MemDisk {
     }
 
     fn create(&mut self, path: &Path) -> Result<(), Failed>
-        ensures ok { OnOk result (state_of self.new ≡ after_create path.now.bytes (state_of self.old)) }
-        ensures unchanged { OnErr result (history self.new ≡ history self.old) }
-        ensures time { Elapses (clock_of self.old) (clock_of self.new) (since_of self.old) (since_of self.new)
-            (IsBetween (state_of self.old) (after_create path.now.bytes (state_of self.old))) }
-        ensures moves { Moves (clock_of self.old) (clock_of self.new) (state_of self.old) (state_of self.new) }
-        ensures cause { HasCause (schedule_of self.old).faults (schedule_of self.new).faults result }
+        ensures changes { Changes state_of clock_of since_of (after_create path.now.bytes) Fails
+            self.old self.new result }
         ensures listed { WritesAsListed self.old self.new result }
     {
         self.schedule.begin()?;
@@ -194,12 +180,8 @@ impl Disk for MemDisk {
 
     fn append(&mut self, path: &Path, piece: &[u8]) -> Result<(), Failed>
         requires { IsThere ((state_of self.old).present path.now.bytes) }
-        ensures ok { OnOk result (state_of self.new ≡ after_append path.now.bytes piece.now (state_of self.old)) }
-        ensures unchanged { OnErr result (history self.new ≡ history self.old) }
-        ensures time { Elapses (clock_of self.old) (clock_of self.new) (since_of self.old) (since_of self.new)
-            (IsBetween (state_of self.old) (after_append path.now.bytes piece.now (state_of self.old))) }
-        ensures moves { Moves (clock_of self.old) (clock_of self.new) (state_of self.old) (state_of self.new) }
-        ensures cause { HasCause (schedule_of self.old).faults (schedule_of self.new).faults result }
+        ensures changes { Changes state_of clock_of since_of (after_append path.now.bytes piece.now)
+            (AddsPart path.now.bytes piece.now) self.old self.new result }
         ensures listed { WritesAsListed self.old self.new result }
     {
         self.schedule.begin()?;
@@ -210,12 +192,8 @@ impl Disk for MemDisk {
     }
 
     fn sync_file(&mut self, path: &Path) -> Result<(), Failed>
-        ensures ok { OnOk result (state_of self.new ≡ after_sync_file path.now.bytes (state_of self.old)) }
-        ensures unchanged { OnErr result (history self.new ≡ history self.old) }
-        ensures time { Elapses (clock_of self.old) (clock_of self.new) (since_of self.old) (since_of self.new)
-            (IsBetween (state_of self.old) (after_sync_file path.now.bytes (state_of self.old))) }
-        ensures moves { Moves (clock_of self.old) (clock_of self.new) (state_of self.old) (state_of self.new) }
-        ensures cause { HasCause (schedule_of self.old).faults (schedule_of self.new).faults result }
+        ensures changes { Changes state_of clock_of since_of (after_sync_file path.now.bytes) Stays
+            self.old self.new result }
         ensures listed { WritesAsListed self.old self.new result }
     {
         self.schedule.begin()?;
@@ -226,12 +204,8 @@ impl Disk for MemDisk {
     }
 
     fn sync_dir(&mut self, folder: &Path) -> Result<(), Failed>
-        ensures ok { OnOk result (state_of self.new ≡ after_sync_dir folder.now.bytes (state_of self.old)) }
-        ensures unchanged { OnErr result (history self.new ≡ history self.old) }
-        ensures time { Elapses (clock_of self.old) (clock_of self.new) (since_of self.old) (since_of self.new)
-            (IsBetween (state_of self.old) (after_sync_dir folder.now.bytes (state_of self.old))) }
-        ensures moves { Moves (clock_of self.old) (clock_of self.new) (state_of self.old) (state_of self.new) }
-        ensures cause { HasCause (schedule_of self.old).faults (schedule_of self.new).faults result }
+        ensures changes { Changes state_of clock_of since_of (after_sync_dir folder.now.bytes) Stays
+            self.old self.new result }
         ensures listed { WritesAsListed self.old self.new result }
     {
         self.schedule.begin()?;
@@ -244,12 +218,8 @@ impl Disk for MemDisk {
     fn rename(&mut self, from: &Path, to: &Path) -> Result<(), Failed>
         requires differ { from.now.bytes ≢ to.now.bytes }
         requires there { IsThere ((state_of self.old).present from.now.bytes) }
-        ensures ok { OnOk result (state_of self.new ≡ after_rename from.now.bytes to.now.bytes (state_of self.old)) }
-        ensures unchanged { OnErr result (history self.new ≡ history self.old) }
-        ensures time { Elapses (clock_of self.old) (clock_of self.new) (since_of self.old) (since_of self.new)
-            (IsBetween (state_of self.old) (after_rename from.now.bytes to.now.bytes (state_of self.old))) }
-        ensures moves { Moves (clock_of self.old) (clock_of self.new) (state_of self.old) (state_of self.new) }
-        ensures cause { HasCause (schedule_of self.old).faults (schedule_of self.new).faults result }
+        ensures changes { Changes state_of clock_of since_of (after_rename from.now.bytes to.now.bytes) Fails
+            self.old self.new result }
         ensures listed { WritesAsListed self.old self.new result }
     {
         self.schedule.begin()?;
@@ -260,12 +230,8 @@ impl Disk for MemDisk {
     }
 
     fn remove(&mut self, path: &Path) -> Result<(), Failed>
-        ensures ok { OnOk result (state_of self.new ≡ after_remove path.now.bytes (state_of self.old)) }
-        ensures unchanged { OnErr result (history self.new ≡ history self.old) }
-        ensures time { Elapses (clock_of self.old) (clock_of self.new) (since_of self.old) (since_of self.new)
-            (IsBetween (state_of self.old) (after_remove path.now.bytes (state_of self.old))) }
-        ensures moves { Moves (clock_of self.old) (clock_of self.new) (state_of self.old) (state_of self.new) }
-        ensures cause { HasCause (schedule_of self.old).faults (schedule_of self.new).faults result }
+        ensures changes { Changes state_of clock_of since_of (after_remove path.now.bytes) Fails
+            self.old self.new result }
         ensures listed { WritesAsListed self.old self.new result }
     {
         self.schedule.begin()?;

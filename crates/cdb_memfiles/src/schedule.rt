@@ -1,5 +1,4 @@
 ghost use Rattle.std.specs.Prelude.{◌≡◌, ◌≤◌};
-ghost use Rattle.cdb_model.specs.Causes.{HasCause};
 ghost use Rattle.cdb_memfiles.specs.Schedule.{one_more, IsNumbered, FailsAsListed};
 
 use cdb_files::Failed;
@@ -30,7 +29,6 @@ impl Schedule {
     /// The next call, which fails where its number is in the list.
     pub fn begin(&mut self) -> Result<(), Failed>
         ensures listed { FailsAsListed self.old self.new result }
-        ensures cause { HasCause self.old.faults self.new.faults result }
     {
         self.number = self.number.saturating_add(1);
         if self.fails.as_slice().contains(&self.number) {

@@ -1,6 +1,6 @@
-ghost use Rattle.std.specs.Prelude.{◌≡◌, IfOk, OnOk, OnErr, length};
-ghost use Rattle.cdb_model.specs.Causes.{HasCause};
-ghost use Rattle.cdb_model.specs.Maps.{size_of, Reaches, HasAt};
+ghost use Rattle.std.specs.Prelude.{◌≡◌, OnErr, length};
+ghost use Rattle.cdb_model.specs.Maps.{Reaches};
+ghost use Rattle.cdb_memfiles.specs.Calls.{TellsSize, GivesBytes};
 ghost use Rattle.cdb_memfiles.specs.Files.{content};
 ghost use Rattle.cdb_memfiles.specs.Schedule.{FailsAsListed};
 
@@ -43,9 +43,8 @@ impl Shelf for MemShelf {
     ghost fault_count = { λ shelf. (shelf_schedule shelf).faults };
 
     fn size(&mut self, path: &Path) -> Result<Option<u64>, Failed>
-        ensures size { IfOk result (λ size. size ≡ size_of (shelf_files self.old path.now.bytes)) }
+        ensures size { TellsSize (shelf_files self.old) path.now.bytes result }
         ensures files { shelf_files self.new ≡ shelf_files self.old }
-        ensures cause { HasCause (shelf_schedule self.old).faults (shelf_schedule self.new).faults result }
         ensures listed { FailsAsListed (shelf_schedule self.old) (shelf_schedule self.new) result }
     {
         self.schedule.begin()?;
@@ -54,10 +53,9 @@ impl Shelf for MemShelf {
 
     fn read_at(&mut self, path: &Path, at: u64, into: &mut [u8]) -> Result<(), Failed>
         requires { Reaches (shelf_files self.old path.now.bytes) at (length into.old) }
-        ensures bytes { OnOk result (HasAt (shelf_files self.old path.now.bytes) at into.new) }
+        ensures bytes { GivesBytes (shelf_files self.old) path.now.bytes at into.new result }
         ensures kept { OnErr result (into.new ≡ into.old) }
         ensures files { shelf_files self.new ≡ shelf_files self.old }
-        ensures cause { HasCause (shelf_schedule self.old).faults (shelf_schedule self.new).faults result }
         ensures listed { FailsAsListed (shelf_schedule self.old) (shelf_schedule self.new) result }
     {
         self.schedule.begin()?;

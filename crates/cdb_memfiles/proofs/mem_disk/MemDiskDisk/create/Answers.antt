@@ -1,9 +1,6 @@
 use Rattle.cdb_memfiles.specs.declared.call.Call.TheVariants.{Create}
-use Rattle.cdb_memfiles.proofs.MomentLaws.{elapses_push, state_push}
+use Rattle.cdb_memfiles.proofs.MomentLaws.{changes_push}
 use Rattle.cdb_memfiles.proofs.mem_disk.MemDiskDisk.create.Goals as goal
 
-pub returns-in-Ok-clause-ok : goal.returns-in-Ok-clause-ok
-returns-in-Ok-clause-ok c = state_push c.args.self.now.record.calls.items c.create.new.self.calls.items (Create c.args.path.now) c.in-Ok.ensures.ok
-
-pub returns-in-Ok-clause-time : goal.returns-in-Ok-clause-time
-returns-in-Ok-clause-time c = elapses_push c.args.self.now.record.calls.items c.create.new.self.calls.items (Create c.args.path.now) c.in-Ok.ensures.ok
+pub returns-in-Ok-clause-changes : goal.returns-in-Ok-clause-changes
+returns-in-Ok-clause-changes c = changes_push (Create c.args.path.now) c.in-Ok.ensures.ok
