@@ -1,0 +1,4 @@
+pub mod HeadLaws
+pub mod Removals
+pub mod Rounds
+pub mod Recoveries

@@ -1,0 +1,61 @@
+-- What recovery answers, and what it leaves.
+use Rattle.std.specs.Prelude.{◌≡◌, ◌≢◌, ℕ, ◌+◌, ◌≤◌, ◌⊎◌, List, length, None, Some, Result, Ok, Err}
+use Rattle.cdb_source.specs.declared.source.Source.{Source}
+use Rattle.cdb_model.specs.Maps.{Text, Content, FileMap}
+use Rattle.cdb_model.specs.Names.{head_path, new_head_path}
+use Rattle.cdb_model.specs.Records.{head_file_text}
+use Rattle.cdb_model.specs.Stands.{Stands}
+use Rattle.cdb_files.specs.Disk.{State}
+use Rattle.cdb_crash.specs.Crash.{IsClean}
+use Rattle.cdb_crash.specs.Leftovers.{IsOfVersion, HasAtMost}
+use Rattle.cdb_recover.specs.declared.recover_error.RecoverError.{RecoverError}
+use Rattle.cdb_recover.specs.declared.recover_error.RecoverError.TheVariants.{Fault, NotAStore}
+
+-- The file that names the newest version names this one: 0 where there is no file.
+abbrev pub IsNewest : Content → ℕ → Type 0
+IsNewest None newest = newest ≡ 0
+IsNewest (Some bytes) newest = (1 ≤ newest) × (newest ≤ 4096) × (bytes ≡ head_file_text newest)
+
+-- The file is there, and names no version.
+abbrev pub NamesNone : Content → Type 0
+NamesNone None = ⊥
+NamesNone (Some bytes) = (newest : ℕ) → 1 ≤ newest → newest ≤ 4096 → bytes ≡ head_file_text newest → ⊥
+
+-- What is read of the file.
+abbrev pub IsHeadRead : Content → Result ℕ RecoverError → Type 0
+IsHeadRead content (Ok newest) = IsNewest content newest
+IsHeadRead content (Err (NotAStore version place)) = NamesNone content × (version ≡ 0) × (place ≡ 0)
+IsHeadRead content (Err Fault) = Unit {0}
+
+-- Of the files under the version after the newest none is left, or there were more than 65,536.
+abbrev pub IsCleared : ℕ → FileMap → Result ℕ RecoverError → Type 0
+IsCleared newest m (Ok version) = (version ≡ newest) × HasAtMost 65536 (newest + 1) m
+IsCleared newest m (Err (NotAStore version place)) = (HasAtMost 65536 (newest + 1) m → ⊥) × (version ≡ newest + 1) × (place ≡ 65536)
+IsCleared newest m (Err Fault) = Unit {0}
+
+-- The newest version is named, and there are more than 65,536 files under the next one.
+pub record IsFull (m : FileMap) (version place : ℕ) : Type 0 where
+  pub newest : ℕ
+  pub named : IsNewest (m head_path) newest
+  pub many : HasAtMost 65536 (newest + 1) m → ⊥
+  pub version_is : version ≡ newest + 1
+  pub place_is : place ≡ 65536
+
+-- What recovery answers over a map.
+abbrev pub IsAnswer : FileMap → Result ℕ RecoverError → Type 0
+IsAnswer m (Ok newest) = IsNewest (m head_path) newest × HasAtMost 65536 (newest + 1) m
+IsAnswer m (Err (NotAStore version place)) = (NamesNone (m head_path) × (version ≡ 0) × (place ≡ 0)) ⊎ IsFull m version place
+IsAnswer m (Err Fault) = Unit {0}
+
+-- The newest version is that of the list, and the disk is clean for it.
+abbrev pub IsRecovered : State → List (List Source) → ℕ → Type 0
+IsRecovered s list newest = (newest ≡ length list) × IsClean Stands list s
+
+-- All stays but the new head and the files under the version after the newest.
+abbrev pub KeepsVersions : ℕ → FileMap → FileMap → Type 0
+KeepsVersions newest old new = (q : Text) → q ≢ new_head_path → (IsOfVersion (newest + 1) q → ⊥) → new q ≡ old q
+
+-- So it is where a newest version is named, and where none is all stays.
+pub record KeepsStore (old new : FileMap) : Type 0 where
+  pub named : (newest : ℕ) → IsNewest (old head_path) newest → KeepsVersions newest old new
+  pub unnamed : NamesNone (old head_path) → (q : Text) → new q ≡ old q
