@@ -1,0 +1,116 @@
+//! One level of least and greatest elevations: from the elevations of the level itself, and from the
+//! least and the greatest ones of the next finer level.
+#![tactic(auto)]
+
+ghost use Rattle.std.specs.Prelude.{◌≡◌, ◌+◌, ◌*◌, ◌/◌, ◌%◌, ◌≤◌, length};
+ghost use Rattle.cdb_grid.specs.Frames.{IsPartChanged, four_under};
+ghost use Rattle.cdb_source.specs.Folds.{finer_low, finer_high, lesser_number, greater_number};
+
+use cdb_grid::{FourRule, Spot, fold_four};
+use cdb_source::Kind;
+
+/// The lesser of two elevations, one that has no value passed over.
+fn lesser(a: i16, b: i16) -> i16
+    ensures { result ≡ lesser_number a b }
+{
+    if b == Kind::Elevation.no_value() {
+        return a;
+    }
+    if a == Kind::Elevation.no_value() {
+        return b;
+    }
+    if b < a { b } else { a }
+}
+
+/// The greater of two elevations, one that has no value passed over.
+fn greater(a: i16, b: i16) -> i16
+    ensures { result ≡ greater_number a b }
+{
+    if b == Kind::Elevation.no_value() {
+        return a;
+    }
+    if a == Kind::Elevation.no_value() {
+        return b;
+    }
+    if a < b { b } else { a }
+}
+
+#[derive(Clone, Copy)]
+struct Least;
+
+impl FourRule for Least {
+    ghost of_four = { finer_low };
+
+    fn of_four(
+        &self,
+        own: i16,
+        south_west: i16,
+        south_east: i16,
+        north_west: i16,
+        north_east: i16,
+    ) -> i16 {
+        let south = lesser(south_west, south_east);
+        let north = lesser(north_west, north_east);
+        lesser(own, lesser(south, north))
+    }
+}
+
+#[derive(Clone, Copy)]
+struct Greatest;
+
+impl FourRule for Greatest {
+    ghost of_four = { finer_high };
+
+    fn of_four(
+        &self,
+        own: i16,
+        south_west: i16,
+        south_east: i16,
+        north_west: i16,
+        north_east: i16,
+    ) -> i16 {
+        let south = greater(south_west, south_east);
+        let north = greater(north_west, north_east);
+        greater(own, greater(south, north))
+    }
+}
+
+/// Begins the least or the greatest elevations of a tile: with its elevations.
+pub fn start(elev: &[i16], frame: &mut [i16])
+    requires { length frame.old ≡ length elev.now }
+    ensures { frame.new ≡ elev.now }
+{
+    frame.copy_from_slice(elev);
+}
+
+/// Folds the least elevations of a finer tile into its part of a coarser one: an element of the part
+/// becomes the least of its own and of the four finer ones in its cell, those without a value, which
+/// -32768 stands for, passed over. All else in the frame stays (OGC CDB 1.2 Volume 1, minimum and
+/// maximum elevation components).
+pub fn fold_low(child: &[i16], child_side: u32, spot: Spot, frame: &mut [i16], frame_side: u32)
+    requires even { child_side % 2 ≡ 0 }
+    requires child { length child.now ≡ child_side * child_side }
+    requires frame { length frame.old ≡ frame_side * frame_side }
+    requires row_fits { spot.row + child_side / 2 ≤ frame_side }
+    requires col_fits { spot.col + child_side / 2 ≤ frame_side }
+    ensures { IsPartChanged (four_under finer_low child.now child_side) spot.row spot.col (child_side / 2)
+        (child_side / 2) frame_side frame.old frame.new }
+{
+    fold_four(&Least, child, child_side, spot, frame, frame_side);
+}
+
+/// The same of the greatest elevations.
+pub fn fold_high(child: &[i16], child_side: u32, spot: Spot, frame: &mut [i16], frame_side: u32)
+    requires even { child_side % 2 ≡ 0 }
+    requires child { length child.now ≡ child_side * child_side }
+    requires frame { length frame.old ≡ frame_side * frame_side }
+    requires row_fits { spot.row + child_side / 2 ≤ frame_side }
+    requires col_fits { spot.col + child_side / 2 ≤ frame_side }
+    ensures { IsPartChanged (four_under finer_high child.now child_side) spot.row spot.col (child_side / 2)
+        (child_side / 2) frame_side frame.old frame.new }
+{
+    fold_four(&Greatest, child, child_side, spot, frame, frame_side);
+}
+
+#[cfg(test)]
+mod tests;
