@@ -1,2 +1,16 @@
 pub mod MeanLaws
 pub mod PostLaws
+pub mod Plain
+pub mod ChildPlaces
+pub mod OneTile
+pub mod OneTileWhole
+pub mod Raised
+pub mod AxisLaws
+pub mod WindowLaws
+pub mod OrMean
+pub mod RowRules
+pub mod PaintedRows
+pub mod ReducedLaws
+pub mod PaintLaws
+pub mod FillLaws
+pub mod WindowTests

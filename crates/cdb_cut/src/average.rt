@@ -3,7 +3,6 @@ ghost use Rattle.std.specs.Prelude.{◌≡◌, ◌+◌, ◌*◌, ◌^◌, ◌≤
 ghost use Rattle.std.specs.Option.{option_map};
 ghost use Rattle.cdb_source.specs.Sample.{plus, rounded, weighted_sum, post_at, row_step, column_step};
 
-use crate::corner::step_size;
 use crate::raster::post;
 use cdb_source::Source;
 
@@ -83,12 +82,13 @@ fn mean(total: i128, weight: u128) -> i16
 fn weighted(source: &Source, up: u64, right: u64) -> Sum
     requires up { up ≤ 6262062317568000 }
     requires right { right ≤ 12524124635136000 }
-    ensures total { result.total ≡ weighted_sum (post_at source.now) (row_step source.now.head) (column_step source.now.head) up right }
+    ensures total { result.total ≡ weighted_sum (post_at source.now) (row_step source.now.head)
+        (column_step source.now.head) up right }
     ensures weight { result.weight ≡ row_step source.now.head * column_step source.now.head }
     ensures near { IfSome result.total (λ n. unsigned_abs n ≤ 32767 * result.weight) }
 {
-    let dlat = step_size(source.head.dlat);
-    let dlon = step_size(source.head.dlon);
+    let dlat = source.head.row_step();
+    let dlon = source.head.column_step();
     let (row, col) = (up / dlat, right / dlon);
     let (above, beyond) = (up % dlat, right % dlon);
     let sum = Sum {

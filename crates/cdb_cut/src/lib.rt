@@ -2,11 +2,24 @@
 #![tactic(auto)]
 
 mod average;
-mod corner;
+mod axis;
+mod blend;
+mod filling;
+pub mod laws;
+mod paint_rows;
+mod painting;
 mod raster;
 mod sampling;
+mod source_rows;
+mod tile_part;
+mod walk;
 
-pub use sampling::sample;
+pub use filling::fill;
+pub use painting::paint;
+pub use sampling::{sample, sample_at};
+pub use source_rows::{Rows, window};
 
 #[cfg(test)]
 mod tests;
+#[cfg(test)]
+mod tile_tests;

@@ -1,24 +1,9 @@
 //! The posts of a source as values, and its box.
 ghost use Rattle.std.specs.Prelude.{◌≡◌, ◌+◌, ◌-◌, ◌≤◌, ◌<◌, ◌↔◌, IsTrue, IfSome, unsigned_abs};
-ghost use Rattle.cdb_source.specs.Head.{span};
 ghost use Rattle.cdb_source.specs.Posts.{IsPost};
-ghost use Rattle.cdb_source.specs.Sample.{post_at, value_of, is_in_box, is_before, corner_of, row_step, column_step, box_height, box_width};
+ghost use Rattle.cdb_source.specs.Sample.{post_at, value_of, is_in_box, is_before};
 
-use crate::corner::step_size;
-use cdb_grid::units::{east_of, north_of};
 use cdb_source::{Kind, Source, SourceHead};
-
-/// How far so many rows or columns reach from the first one. Within a box it stays on the globe.
-fn reach(kind: Kind, count: u32, size: u64) -> u64
-    requires count { 1 ≤ count }
-    requires room { span kind count size ≤ 12524124635136000 }
-    ensures { result ≡ span kind count size }
-{
-    match kind {
-        Kind::Elevation => (count - 1) as u64 * size,
-        Kind::Material => count as u64 * size,
-    }
-}
 
 fn is_not_past(kind: Kind, x: u64, edge: u64) -> bool
     ensures { result ≡ is_before kind x edge }
@@ -32,14 +17,10 @@ fn is_not_past(kind: Kind, x: u64, edge: u64) -> bool
 pub(crate) fn is_inside(head: &SourceHead, north: u64, east: u64) -> bool
     ensures { result ≡ is_in_box head.now (record { north = north; east = east }) }
 {
-    let south = north_of(head.lat);
-    let west = east_of(head.lon);
-    let up = south + reach(head.kind, head.rows, step_size(head.dlat));
-    let right = west + reach(head.kind, head.cols, step_size(head.dlon));
-    south <= north
-        && is_not_past(head.kind, north, up)
-        && west <= east
-        && is_not_past(head.kind, east, right)
+    head.south() <= north
+        && is_not_past(head.kind, north, head.north())
+        && head.west() <= east
+        && is_not_past(head.kind, east, head.east())
 }
 
 fn value(kind: Kind, post: i16) -> Option<i16>
@@ -47,11 +28,11 @@ fn value(kind: Kind, post: i16) -> Option<i16>
     ensures value { result ≡ value_of kind post }
     ensures near { IfSome result (λ v. unsigned_abs v ≤ 32767) }
 {
-    let none = match kind {
-        Kind::Elevation => post == -32768,
-        Kind::Material => post == 0,
-    };
-    if none { None } else { Some(post) }
+    if post == kind.no_value() {
+        None
+    } else {
+        Some(post)
+    }
 }
 
 /// The value of the post at a row from the south and a column from the west.

@@ -1,31 +1,17 @@
+//! The value of a source at a place.
 ghost use Rattle.std.specs.Prelude.{◌≡◌, ◌≤◌};
 ghost use Rattle.cdb_source.specs.Sample.{sample_at, sample_of};
 
 use crate::average::mean_of_four;
-use crate::corner::{TO_POLE, TO_WEST, step_size};
 use crate::raster::{is_inside, post};
-use cdb_grid::Arc;
 use cdb_grid::units::{east_of, north_of};
+use cdb_grid::{Arc, DEGREE};
 use cdb_source::{Kind, Source};
 
-#[tactic(auto, unfolding(cdb_source::specs::Sample::sample_at))]
-fn sample_within(source: &Source, north: u64, east: u64) -> Option<i16>
-    ensures { result ≡ sample_at source.now (record { north = north; east = east }) }
-{
-    if !is_inside(&source.head, north, east) {
-        return None;
-    }
-    let up = north - north_of(source.head.lat);
-    let right = east - east_of(source.head.lon);
-    match source.head.kind {
-        Kind::Elevation => mean_of_four(source, up, right),
-        Kind::Material => post(
-            source,
-            up / step_size(source.head.dlat),
-            right / step_size(source.head.dlon),
-        ),
-    }
-}
+/// Arc units from the equator to a pole, and from the meridian of 0 degrees to that of 180.
+const TO_POLE: i64 = 90 * DEGREE as i64;
+
+const TO_WEST: i64 = 180 * DEGREE as i64;
 
 /// What a source has at a latitude and a longitude.
 ///
@@ -40,5 +26,25 @@ pub fn sample(source: &Source, lat: Arc, lon: Arc) -> Option<i16>
     if lat.units < -TO_POLE || lon.units < -TO_WEST {
         return None;
     }
-    sample_within(source, north_of(lat), east_of(lon))
+    sample_at(source, north_of(lat), east_of(lon))
+}
+
+/// The same at so many arc units north of the south pole and east of the meridian of -180 degrees.
+#[tactic(auto, unfolding(cdb_source::specs::Sample::sample_at))]
+pub fn sample_at(source: &Source, north: u64, east: u64) -> Option<i16>
+    ensures { result ≡ sample_at source.now (record { north = north; east = east }) }
+{
+    if !is_inside(&source.head, north, east) {
+        return None;
+    }
+    let up = north - source.head.south();
+    let right = east - source.head.west();
+    match source.head.kind {
+        Kind::Elevation => mean_of_four(source, up, right),
+        Kind::Material => post(
+            source,
+            up / source.head.row_step(),
+            right / source.head.column_step(),
+        ),
+    }
 }

@@ -15,12 +15,16 @@ fn arc(units: i64) -> Option<Arc> {
     Some(Arc { units })
 }
 
-/// A source of two columns at N46E007 whose steps are equal. The rows come north first.
-fn source(alloc: Global, kind: Kind, step: i64, rows: &[[i32; 2]]) -> Result<Source, Fail> {
+/// A source of two columns whose steps are equal. The rows come north first.
+pub(crate) fn source_at(
+    alloc: Global,
+    kind: Kind,
+    lat: Arc,
+    lon: Arc,
+    step: Arc,
+    rows: &[[i32; 2]],
+) -> Result<Source, Fail> {
     let level = Level::new(-9).ok_or("level")?;
-    let lat = arc(46 * DEGREE).ok_or("lat")?;
-    let lon = arc(7 * DEGREE).ok_or("lon")?;
-    let step = arc(step).ok_or("step")?;
     let count = u32::try_from(rows.len()).ok().ok_or("rows")?;
     let head = SourceHead::new(kind, level, lat, lon, step, step, count, 2).ok_or("head")?;
     let mut maker = SourceMaker::new(alloc, head)?;
@@ -28,6 +32,14 @@ fn source(alloc: Global, kind: Kind, step: i64, rows: &[[i32; 2]]) -> Result<Sou
         maker.push_row(row, -32768)?;
     }
     Ok(maker.finish())
+}
+
+/// The same at N46E007.
+fn source(alloc: Global, kind: Kind, step: i64, rows: &[[i32; 2]]) -> Result<Source, Fail> {
+    let lat = arc(46 * DEGREE).ok_or("lat")?;
+    let lon = arc(7 * DEGREE).ok_or("lon")?;
+    let step = arc(step).ok_or("step")?;
+    source_at(alloc, kind, lat, lon, step, rows)
 }
 
 /// What a source has so many units north and east of N46E007.

@@ -1,0 +1,174 @@
+//! Paints a source into the frame of a tile.
+ghost use Rattle.std.specs.Prelude.{◌≡◌, ℕ, ◌+◌, ◌-◌, ◌*◌, ◌/◌, ◌%◌, ◌^◌, ◌≤◌, ◌<◌, IsTrue, IfSome, length, take, drop};
+ghost use Rattle.std.proofs.Props.{props};
+ghost use Rattle.cdb_grid.specs.Frames.{IsRowChanged};
+ghost use Rattle.cdb_source.specs.declared.kind.Kind.TheVariants.{Elevation, Material};
+ghost use Rattle.cdb_grid.specs.Tiles.{tile_side};
+ghost use Rattle.cdb_source.specs.declared.source.Source as sources;
+ghost use Rattle.cdb_cut.specs.Painted.{painted_rule, IsCovered};
+ghost use Rattle.cdb_cut.specs.Window.{IsWindow, rows_of};
+ghost use Rattle.cdb_cut.specs.OneTile.{IsPainted};
+
+use crate::blend::Between;
+use crate::paint_rows::{cell_row, mean_row};
+use crate::source_rows::Rows;
+use crate::tile_part::part_of;
+use crate::walk::Axis;
+use cdb_grid::{RowRule, Spot, Tile, change_part, side};
+use cdb_source::{Kind, SourceHead};
+
+/// A window of a source, and how the places of a tile stand in it.
+#[derive(Clone, Copy)]
+pub(crate) struct Painted<'a> {
+    pub kind: Kind,
+    pub posts: &'a [i16],
+    pub first: u64,
+    pub cols: usize,
+    pub lat: Axis,
+    pub lon: Axis,
+    pub narrow: bool,
+    pub exponent: Option<u32>,
+    pub ghost fits: { IsTrue narrow → lat.step * lon.step ≤ 2 ^ 46 },
+    pub ghost power: { IfSome exponent (λ n. (n < 64) × (2 * (lat.step * lon.step) ≡ 2 ^ n)) } by { Prim.hlevel props },
+}
+
+impl Painted<'_> {
+    /// A row of the source that is in the window.
+    fn source_row(&self, row: u64) -> &[i16]
+        requires from { self.now.first ≤ row }
+        requires within { (row - self.now.first + 1) * self.now.cols ≤ length self.now.posts.now }
+        requires small { row < 2 ^ 62 }
+        ensures { result.now ≡ take self.now.cols (drop ((row - self.now.first) * self.now.cols) self.now.posts.now) }
+    {
+        let from = (row - self.first) as usize * self.cols;
+        &self.posts[from..from + self.cols]
+    }
+
+    fn elevations(&self, row: usize, part: &mut [i16])
+        requires { IsCovered Elevation self.now.posts.now self.now.first self.now.cols self.now.lat.step
+            self.now.lon.step
+            self.now.lat.start self.now.lat.stride self.now.lon.start self.now.lon.stride row (length part.old) }
+        ensures { IsRowChanged (painted_rule Elevation self.now.posts.now self.now.first self.now.cols
+            self.now.lat.step self.now.lon.step
+            self.now.lat.start self.now.lat.stride self.now.lon.start self.now.lon.stride row)
+            (length part.old) part.old part.new }
+    {
+        let up = self.lat.along(row as u64);
+        let low = self.source_row(up.post);
+        let between = Between {
+            dlat: self.lat.step,
+            dlon: self.lon.step,
+            above: up.part,
+            narrow: self.narrow,
+            exponent: self.exponent,
+        };
+        if up.part == 0 {
+            mean_row(&between, &self.lon, low, low, part);
+        } else {
+            let high = self.source_row(up.post + 1);
+            mean_row(&between, &self.lon, low, high, part);
+        }
+    }
+
+    fn materials(&self, row: usize, part: &mut [i16])
+        requires { IsCovered Material self.now.posts.now self.now.first self.now.cols self.now.lat.step
+            self.now.lon.step
+            self.now.lat.start self.now.lat.stride self.now.lon.start self.now.lon.stride row (length part.old) }
+        ensures { IsRowChanged (painted_rule Material self.now.posts.now self.now.first self.now.cols
+            self.now.lat.step self.now.lon.step
+            self.now.lat.start self.now.lat.stride self.now.lon.start self.now.lon.stride row)
+            (length part.old) part.old part.new }
+    {
+        let up = self.lat.along(row as u64);
+        cell_row(&self.lon, self.source_row(up.post), part);
+    }
+}
+
+impl RowRule for Painted<'_> {
+    ghost has_row = { λ p row cols. IsCovered p.kind p.posts.now p.first p.cols p.lat.step p.lon.step p.lat.start
+        p.lat.stride p.lon.start p.lon.stride row cols };
+
+    ghost rule = { λ p. painted_rule p.kind p.posts.now p.first p.cols p.lat.step p.lon.step p.lat.start
+        p.lat.stride p.lon.start p.lon.stride };
+
+    fn change_row(&self, row: usize, part: &mut [i16]) {
+        match self.kind {
+            Kind::Elevation => self.elevations(row, part),
+            Kind::Material => self.materials(row, part),
+        }
+    }
+}
+
+/// Whether the products of a mean over these steps fit 64 bits.
+fn is_narrow(dlat: u64, dlon: u64) -> bool
+    requires dlat { dlat ≤ 417470821171200 }
+    requires dlon { dlon ≤ 417470821171200 }
+    ensures { IsTrue result → dlat * dlon ≤ 2 ^ 46 }
+{
+    dlat as u128 * dlon as u128 <= 1 << 46
+}
+
+/// The exponent of a power of two, or `None`.
+fn exponent_of(number: u64) -> Option<u32>
+    ensures { IfSome result (λ n. (n < 64) × (number ≡ 2 ^ n)) }
+{
+    let exponent = number.trailing_zeros();
+    if exponent >= 64 {
+        return None;
+    }
+    if 1 << exponent == number {
+        Some(exponent)
+    } else {
+        None
+    }
+}
+
+/// The exponent of twice the product of two steps, where that is a power of two and fits 64 bits.
+fn exponent_of_steps(dlat: u64, dlon: u64, narrow: bool) -> Option<u32>
+    requires { IsTrue narrow → dlat * dlon ≤ 2 ^ 46 }
+    ensures { IfSome result (λ n. (n < 64) × (2 * (dlat * dlon) ≡ 2 ^ n)) }
+{
+    if !narrow {
+        return None;
+    }
+    exponent_of(2 * (dlat * dlon))
+}
+
+/// Writes the sample of a source at each place of a tile where the frame has no value and the source
+/// has one, and nothing else.
+///
+/// `rows` is the source's window for the tile, `posts` are the posts of these rows, and `frame` is the
+/// tile's. -32768 stands for no elevation, and 0 for no material.
+pub fn paint(head: &SourceHead, rows: Rows, posts: &[i16], tile: &Tile, frame: &mut [i16])
+    requires window { IsWindow head.now tile.now rows.first rows.count }
+    requires posts { length posts.now ≡ rows.count * head.now.cols }
+    requires frame { length frame.old ≡ tile_side tile.now * tile_side tile.now }
+    ensures size { length frame.new ≡ length frame.old }
+    ensures painted { (s : sources.Source) → s.head ≡ head.now → posts.now ≡ rows_of s rows.first rows.count →
+        IsPainted s tile.now frame.old frame.new }
+{
+    let part = part_of(head, rows, tile);
+    let narrow = is_narrow(part.lat.step, part.lon.step);
+    let painted = Painted {
+        kind: head.kind,
+        posts,
+        first: rows.first as u64,
+        cols: head.cols as usize,
+        lat: part.lat,
+        lon: part.lon,
+        narrow,
+        exponent: exponent_of_steps(part.lat.step, part.lon.step, narrow),
+    };
+    let spot = Spot {
+        row: part.rows.first as u32,
+        col: part.cols.first as u32,
+    };
+    change_part(
+        &painted,
+        spot,
+        (part.rows.end - part.rows.first) as usize,
+        (part.cols.end - part.cols.first) as usize,
+        frame,
+        side(tile.level) as usize,
+    );
+}
