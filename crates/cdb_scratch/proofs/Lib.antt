@@ -1,5 +1,4 @@
 pub mod ValueLaws
-pub mod FourLaws
 pub mod PlaceLaws
 pub mod CellLaws
 pub mod FrameLaws

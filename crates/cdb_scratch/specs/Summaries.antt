@@ -1,12 +1,12 @@
 -- What a cell has of its own value and those of its four finer cells: the least and the greatest elevation, and the
 -- most frequent material.
-use Rattle.std.specs.Prelude.{ℕ, ℤ, List, [], ◌∷◌, filter_map, Option, Some, None}
+use Rattle.std.specs.Prelude.{ℕ, ℤ, List, Option}
 use Rattle.std.specs.Option.{option_or}
 use Rattle.cdb_grid.specs.Grid.{Place, centre}
 use Rattle.cdb_source.specs.declared.kind.Kind.{Kind}
 use Rattle.cdb_source.specs.declared.kind.Kind.TheVariants.{Elevation, Material}
-use Rattle.cdb_source.specs.Values.{Sampled, elevation, newest_own, lesser, greater, oftener, mode_of_four, low, high, material}
-use Rattle.cdb_scratch.specs.declared.four.Four.{Four}
+use Rattle.cdb_source.specs.Values.{Sampled, elevation, newest_own, lesser, greater, mode_of_four, low, high, material}
+use Rattle.cdb_material.specs.declared.four.Four.{Four}
 use Rattle.cdb_scratch.specs.declared.cell.Summary.{Summary}
 use Rattle.cdb_scratch.specs.declared.cell.Summary.TheVariants.{Least, Greatest, MostFrequent}
 
@@ -33,13 +33,3 @@ abbrev pub combined : Summary → Option ℤ → Four → Option ℤ
 combined Least own four = lesser own (lesser (lesser four.south_west four.south_east) (lesser four.north_west four.north_east))
 combined Greatest own four = greater own (greater (greater four.south_west four.south_east) (greater four.north_west four.north_east))
 combined MostFrequent own four = option_or (mode_of_four four.south_west four.south_east four.north_west four.north_east) own
-
--- those of four values that are there
-abbrev pub values_of : Four → List ℤ
-values_of four = filter_map (λ v. v) (four.south_west ∷ four.south_east ∷ four.north_west ∷ four.north_east ∷ [])
-
--- the one of two values that is more frequent in a list, one that is none passed over
-abbrev pub more_frequent : List ℤ → Option ℤ → Option ℤ → Option ℤ
-more_frequent values None y = y
-more_frequent values (Some x) None = Some x
-more_frequent values (Some x) (Some y) = Some (oftener values x y)

@@ -6,12 +6,12 @@ ghost use Rattle.cdb_source.specs.Reached.{family_value};
 ghost use Rattle.cdb_scratch.specs.Summaries.{summary_kind, summary_of, own_of, combined};
 
 use crate::elevation::elevation;
-use crate::four::{Four, mode};
 use crate::material::own_material;
 use crate::places::width;
 use crate::reach::is_cell_reached;
 use cdb_grid::Family;
 use cdb_grid::units::step;
+use cdb_material::{Four, mode};
 use cdb_source::{Kind, Source};
 
 /// What of a cell and its finer cells is asked for: the least or the greatest elevation, or the

@@ -1,23 +1,12 @@
 //! The elevation at a place.
 ghost use Rattle.std.specs.Prelude.{◌≡◌, ◌*◌, ◌<◌, ◌≤◌};
 ghost use Rattle.cdb_grid.specs.Units.{degree};
-ghost use Rattle.cdb_source.specs.Sample.{sample_at};
 ghost use Rattle.cdb_source.specs.Offers.{over};
 ghost use Rattle.cdb_source.specs.Values.{sampled, offer, elevation_of};
 
-use cdb_cut::sample;
-use cdb_grid::units::{arcs, height};
+use cdb_cut::sample_at;
+use cdb_grid::units::height;
 use cdb_source::{Kind, Source};
-
-/// What a source has at a place.
-pub(crate) fn sample_at(source: &Source, north: u64, east: u64) -> Option<i16>
-    requires north { north < 180 * degree }
-    requires east { east < 360 * degree }
-    ensures { result ≡ sample_at source.now (record { north = north; east = east }) }
-{
-    let (lat, lon) = arcs(north, east);
-    sample(source, lat, lon)
-}
 
 /// What a source has for an elevation of a height, with the height of its own level.
 fn offer(source: &Source, at_most: u32, north: u64, east: u64) -> Option<(u32, i16)>

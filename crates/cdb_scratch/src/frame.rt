@@ -6,20 +6,18 @@ ghost use Rattle.cdb_grid.specs.Frames.{number_at, number_in};
 ghost use Rattle.cdb_source.specs.Posts.{coded};
 
 use crate::cell::value;
-use crate::places::corner;
 use cdb_grid::units::height;
-use cdb_grid::{Tile, side};
-use cdb_source::{Kind, Source};
-use cdb_touch::{kind_of, reaches};
+use cdb_grid::{Tile, corner, side};
+use cdb_source::{Kind, Source, kind_of};
+use cdb_touch::reached;
 
 /// The number by which a frame of a kind has a value, or none.
 fn coded(kind: Kind, value: Option<i16>) -> i16
     ensures { result ≡ coded kind value }
 {
-    match (value, kind) {
-        (Some(value), _) => value,
-        (None, Kind::Elevation) => -32768,
-        (None, Kind::Material) => 0,
+    match value {
+        Some(value) => value,
+        None => kind.no_value(),
     }
 }
 
@@ -38,7 +36,8 @@ fn number(sources: &[Source], tile: &Tile, row: u32, col: u32) -> i16
 fn put_row(sources: &[Source], tile: &Tile, row: u32, part: &mut [i16])
     requires row { row < tile_side tile.now }
     requires length { length part.old ≡ tile_side tile.now }
-    ensures { (col : ℕ) → col < tile_side tile.now → number_in part.new col ≡ coded (kind_of tile.now.family) (tile_value sources.now tile.now row col) }
+    ensures { (col : ℕ) → col < tile_side tile.now → number_in part.new col ≡ coded (kind_of tile.now.family)
+        (tile_value sources.now tile.now row col) }
 {
     for col in 0..part.len() {
         part[col] = number(sources, tile, row, col as u32);
@@ -49,25 +48,14 @@ fn put_row(sources: &[Source], tile: &Tile, row: u32, part: &mut [i16])
 fn put_rows(sources: &[Source], tile: &Tile, frame: &mut [i16])
     requires length { length frame.old ≡ tile_side tile.now * tile_side tile.now }
     ensures { (row col : ℕ) → row < tile_side tile.now → col < tile_side tile.now →
-        number_at frame.new (tile_side tile.now) row col ≡ coded (kind_of tile.now.family) (tile_value sources.now tile.now row col) }
+        number_at frame.new (tile_side tile.now) row col ≡ coded (kind_of tile.now.family)
+        (tile_value sources.now tile.now row col) }
 {
     let side = side(tile.level);
     for row in 0..side {
         let from = row as usize * side as usize;
         put_row(sources, tile, row, &mut frame[from..from + side as usize]);
     }
-}
-
-/// Whether some source reaches a tile.
-fn is_reached(sources: &[Source], tile: &Tile) -> bool
-    ensures { IsTrue result ↔ Reached (map (λ source. source.head) sources.now) tile.now }
-{
-    for source in sources {
-        if reaches(&source.head, tile) {
-            return true;
-        }
-    }
-    false
 }
 
 /// Writes the values of a tile into a frame, from sources alone, oldest source first, and says
@@ -86,8 +74,9 @@ pub fn build(sources: &[Source], tile: &Tile, frame: &mut [i16]) -> bool
     ensures reached { IsTrue result ↔ Reached (map (λ source. source.head) sources.now) tile.now }
     ensures length { length frame.new ≡ length frame.old }
     ensures each { (row col : ℕ) → row < tile_side tile.now → col < tile_side tile.now →
-        number_at frame.new (tile_side tile.now) row col ≡ coded (kind_of tile.now.family) (tile_value sources.now tile.now row col) }
+        number_at frame.new (tile_side tile.now) row col ≡ coded (kind_of tile.now.family)
+        (tile_value sources.now tile.now row col) }
 {
     put_rows(sources, tile, frame);
-    is_reached(sources, tile)
+    reached(sources, tile)
 }

@@ -3,7 +3,6 @@
 
 mod cell;
 mod elevation;
-mod four;
 mod frame;
 mod material;
 mod places;

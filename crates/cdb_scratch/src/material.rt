@@ -6,8 +6,8 @@ ghost use Rattle.cdb_grid.specs.Grid.{IsCorner, centre};
 ghost use Rattle.cdb_source.specs.declared.kind.Kind.TheVariants.{Material};
 ghost use Rattle.cdb_source.specs.Values.{sampled, own, newest_own};
 
-use crate::elevation::sample_at;
 use crate::places::centre;
+use cdb_cut::sample_at;
 use cdb_grid::units::height;
 use cdb_source::{Kind, Source};
 
@@ -49,7 +49,8 @@ pub(crate) fn own_material(sources: &[Source], height: u32, north: u64, east: u6
     requires least { 1 ≤ height }
     requires most { height ≤ 34 }
     requires corner { IsCorner height (record { north = north; east = east }) }
-    ensures { result ≡ newest_own Material (map sampled sources.now) height (centre height (record { north = north; east = east })) }
+    ensures { result ≡ newest_own Material (map sampled sources.now) height (centre height
+        (record { north = north; east = east })) }
 {
     let (up, right) = centre(height, north, east);
     newest_own(sources, height, up, right)

@@ -2,10 +2,9 @@
 ghost use Rattle.std.specs.Prelude.{◌≡◌, ◌*◌, ◌/◌, ◌≤◌, ◌<◌};
 ghost use Rattle.cdb_grid.specs.Units.{degree, width_at};
 ghost use Rattle.cdb_grid.specs.Grid.{IsCorner, centre};
-ghost use Rattle.cdb_grid.specs.Tiles.{tile_side, element_corner};
 
-use cdb_grid::units::{east_of, north_of, step, width_of_row};
-use cdb_grid::{DEGREE, Family, Tile, place};
+use cdb_grid::DEGREE;
+use cdb_grid::units::{step, width_of_row};
 
 /// The width in degrees of the geocells at so many arc units from the south pole.
 pub(crate) fn width(north: u64) -> u64
@@ -22,27 +21,11 @@ pub(crate) fn centre(height: u32, north: u64, east: u64) -> (u64, u64)
     requires least { 1 ≤ height }
     requires most { height ≤ 34 }
     requires corner { IsCorner height (record { north = north; east = east }) }
-    ensures value { record { north = result.0; east = result.1 } ≡ centre height (record { north = north; east = east }) }
+    ensures value { record { north = result.0; east = result.1 } ≡ centre height
+        (record { north = north; east = east }) }
     ensures north { result.0 < 180 * degree }
     ensures east { result.1 < 360 * degree }
 {
     let half = step(height - 1);
     (north + half, east + width(north) * half)
-}
-
-/// The south-west corner of the cell of a tile's element.
-pub(crate) fn corner(tile: &Tile, row: u32, col: u32) -> (u64, u64)
-    requires row { row < tile_side tile.now }
-    requires col { col < tile_side tile.now }
-    ensures { record { north = result.0; east = result.1 } ≡ element_corner tile.now row col }
-{
-    let at_corners = Tile {
-        family: Family::Elev,
-        cell: tile.cell,
-        level: tile.level,
-        up: tile.up,
-        right: tile.right,
-    };
-    let (lat, lon) = place(&at_corners, row, col);
-    (north_of(lat), east_of(lon))
 }

@@ -3,13 +3,12 @@ ghost use Rattle.std.specs.Prelude.{◌≡◌, ◌↔◌, ◌+◌, ◌-◌, ◌*
 ghost use Rattle.cdb_grid.specs.Units.{degree, step, width_at};
 ghost use Rattle.cdb_grid.specs.Grid.{IsCorner};
 ghost use Rattle.cdb_source.specs.declared.kind.Kind.TheVariants.{Elevation, Material};
-ghost use Rattle.cdb_source.specs.Head.{size_of, span};
 ghost use Rattle.cdb_source.specs.Sample.{corner_of, box_height, box_width};
 ghost use Rattle.cdb_source.specs.Reached.{source_height};
 ghost use Rattle.cdb_scratch.specs.Cells.{HasMultiple, HasPlace, past_edge, inset_of, ReachesCell, CellReached};
 
 use crate::places::width;
-use cdb_grid::{Arc, units};
+use cdb_grid::units;
 use cdb_source::{Kind, Source, SourceHead};
 
 /// Whether a multiple of a step lies from `low` on and below `high`.
@@ -49,19 +48,6 @@ fn has_place(kind: Kind, step: u64, inset: u64, near: u64, far: u64, low: u64, h
     )
 }
 
-/// How far the box of a source reaches from its first row or column.
-fn extent(kind: Kind, count: u32, step: Arc) -> u64
-    requires count { 1 ≤ count }
-    requires step { 1 ≤ size_of step.units }
-    requires room { span kind count (size_of step.units) ≤ 360 * degree }
-    ensures { result ≡ span kind count (size_of step.units) }
-{
-    match kind {
-        Kind::Elevation => (count - 1) as u64 * step.units as u64,
-        Kind::Material => count as u64 * step.units as u64,
-    }
-}
-
 /// How far north of the corner of its cell a place stands.
 fn inset(kind: Kind, height: u32) -> u64
     requires least { 1 ≤ height }
@@ -79,16 +65,16 @@ fn has_row(head: &SourceHead, height: u32, north: u64) -> bool
     requires most { height ≤ 34 }
     requires north { north < 180 * degree }
     ensures { let head = head.now in let own = source_height head in
-        IsTrue result ↔ HasPlace head.kind (step own) (inset_of head.kind own) (corner_of head).north ((corner_of head).north + box_height head) north (north + step height) }
+        IsTrue result ↔ HasPlace head.kind (step own) (inset_of head.kind own) (corner_of head).north
+        ((corner_of head).north + box_height head) north (north + step height) }
 {
     let own = units::height(head.level);
-    let south = units::north_of(head.lat);
     has_place(
         head.kind,
         units::step(own),
         inset(head.kind, own),
-        south,
-        south + extent(head.kind, head.rows, head.dlat),
+        head.south(),
+        head.north(),
         north,
         north + units::step(height),
     )
@@ -102,16 +88,16 @@ fn has_column(head: &SourceHead, height: u32, width: u64, east: u64) -> bool
     requires width { width ≤ 12 }
     requires east { east < 360 * degree }
     ensures { let head = head.now in let own = source_height head in
-        IsTrue result ↔ HasPlace head.kind (width * step own) (width * inset_of head.kind own) (corner_of head).east ((corner_of head).east + box_width head) east (east + width * step height) }
+        IsTrue result ↔ HasPlace head.kind (width * step own) (width * inset_of head.kind own)
+        (corner_of head).east ((corner_of head).east + box_width head) east (east + width * step height) }
 {
     let own = units::height(head.level);
-    let west = units::east_of(head.lon);
     has_place(
         head.kind,
         width * units::step(own),
         width * inset(head.kind, own),
-        west,
-        west + extent(head.kind, head.cols, head.dlon),
+        head.west(),
+        head.east(),
         east,
         east + width * units::step(height),
     )

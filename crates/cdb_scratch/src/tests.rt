@@ -64,18 +64,10 @@ fn head(kind: Kind, form: &Form, rows: u32, cols: u32) -> Result<SourceHead, Fai
     Ok(head.ok_or("head")?)
 }
 
-/// The number that stands for no value.
-fn no_value(kind: Kind) -> i32 {
-    match kind {
-        Kind::Elevation => -32768,
-        Kind::Material => 0,
-    }
-}
-
 /// A source of one post.
 fn one_post(alloc: Global, kind: Kind, form: &Form, post: i32) -> Result<Source, Fail> {
     let mut maker = SourceMaker::new(alloc, head(kind, form, 1, 1)?)?;
-    maker.push_row(&[post], no_value(kind))?;
+    maker.push_row(&[post], i32::from(kind.no_value()))?;
     Ok(maker.finish())
 }
 
@@ -88,8 +80,8 @@ fn four_posts(
     south: [i32; 2],
 ) -> Result<Source, Fail> {
     let mut maker = SourceMaker::new(alloc, head(kind, form, 2, 2)?)?;
-    maker.push_row(&north, no_value(kind))?;
-    maker.push_row(&south, no_value(kind))?;
+    maker.push_row(&north, i32::from(kind.no_value()))?;
+    maker.push_row(&south, i32::from(kind.no_value()))?;
     Ok(maker.finish())
 }
 
