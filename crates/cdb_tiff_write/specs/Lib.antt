@@ -1,1 +1,4 @@
+pub mod Rasters
 pub mod ReadLaws
+pub mod Samples
+pub mod SizeLaws

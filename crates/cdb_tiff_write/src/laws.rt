@@ -1,6 +1,7 @@
 //! Laws of the bytes of a tile's file, each the contract of a function that does nothing.
 ghost use Rattle.cdb_model.specs.ByteLaws.{BytesByReaching, IsWrittenTile};
-ghost use Rattle.cdb_tiff_write.specs.ReadLaws.{AreRead};
+ghost use Rattle.cdb_tiff_write.specs.ReadLaws.{AreRead, AreReadBack, SamplesAreValues};
+ghost use Rattle.cdb_tiff_write.specs.SizeLaws.{AreSized};
 
 /// A tile's file depends on the sources that reach the tile, in their order, and on no other: what
 /// doesn't reach a tile leaves its file as it was.
@@ -19,4 +20,20 @@ pub fn tiles_are_written_files()
 /// gives back the tile's values.
 pub fn tiles_are_read()
     ensures { AreRead }
+{}
+
+/// The samples of the file of a tile are the tile's values.
+pub fn samples_are_values()
+    ensures { SamplesAreValues }
+{}
+
+/// The samples of a file are the numbers of the rows that were written into it, in two bytes each
+/// (`put_row_16`) or in one (`put_row_8`), the north row first.
+pub fn rows_are_read_back()
+    ensures { AreReadBack }
+{}
+
+/// The length of a tile's file follows from the tile alone, and is at most 2,097,338 bytes.
+pub fn tiles_are_sized()
+    ensures { AreSized }
 {}

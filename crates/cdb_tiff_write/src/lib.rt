@@ -3,7 +3,16 @@
 
 pub mod laws;
 mod raster;
+mod reading;
+mod size;
+mod tile_file;
 mod tile_head;
 
 pub use raster::{put_row_8, put_row_16};
+pub use reading::posts_of;
+pub use size::{bits, tile_size};
+pub use tile_file::put_file;
 pub use tile_head::head;
+
+#[cfg(test)]
+mod tests;

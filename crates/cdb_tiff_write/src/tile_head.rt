@@ -4,14 +4,13 @@ ghost use Rattle.std.specs.Prelude.{◌≡◌, ◌+◌, ◌≤◌, ◌==◌, ◌
 ghost use Rattle.arrayvec.specs.ArrayVec.{array_vec_len};
 ghost use Rattle.cdb_model.specs.TileFile.{short_bytes, long_bytes, short, long, rational, entry, head_bytes};
 
+use crate::size::HEAD_BYTES;
 use arrayvec::ArrayVec;
 use cdb_tiff_base::tag::{
     BITS_PER_SAMPLE, COMPRESSION, IMAGE_LENGTH, IMAGE_WIDTH, LONG, PHOTOMETRIC_INTERPRETATION,
     RATIONAL, RESOLUTION_UNIT, ROWS_PER_STRIP, SAMPLE_FORMAT, SAMPLES_PER_PIXEL, SHORT,
     STRIP_BYTE_COUNTS, STRIP_OFFSETS, X_RESOLUTION, Y_RESOLUTION,
 };
-
-const HEAD_BYTES: usize = 186;
 
 type Head = ArrayVec<u8, HEAD_BYTES>;
 
