@@ -1,0 +1,8 @@
+pub mod FindLaws
+pub mod FoundLaws
+pub mod Lists
+pub mod LookLaws
+pub mod OpeningLaws
+pub mod PlaceLaws
+pub mod ReachedLaws
+pub mod StoreLaws

@@ -1,0 +1,4 @@
+pub mod LookUps
+pub mod Opening
+pub mod Publications
+pub mod Versions
