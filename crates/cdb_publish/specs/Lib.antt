@@ -1,0 +1,15 @@
+pub mod Bounds
+pub mod Causes
+pub mod Entries
+pub mod Fitting
+pub mod Folding
+pub mod Going
+pub mod Laws
+pub mod LookUps
+pub mod Making
+pub mod Needs
+pub mod Planning
+pub mod Reads
+pub mod Ready
+pub mod TileFiles
+pub mod Windows

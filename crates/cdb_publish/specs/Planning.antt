@@ -1,0 +1,57 @@
+-- When a publication may begin, and which refusal it has else.
+use Rattle.std.specs.Prelude.{◌≡◌, ℕ, ◌+◌, ◌<◌, ◌≤◌, List, [], ◌∷◌, ◌++◌, length, map, zero, suc, if◌then◌else◌}
+use Rattle.std.specs.List.{list_any}
+use Rattle.std.specs.Str.{bytes_eq}
+use Rattle.cdb_grid.specs.declared.tile.Tile.{Tile}
+use Rattle.cdb_source.specs.Reached.{IsTouched, IsLoad}
+use Rattle.cdb_source.specs.declared.head.SourceHead.{SourceHead}
+use Rattle.cdb_manifest.specs.declared.record_.Record.{Record}
+use Rattle.cdb_model.specs.Maps.{Text, folder_above}
+use Rattle.cdb_model.specs.Names.{source_path, path}
+use Rattle.cdb_publish.specs.Entries.{entries_in}
+use Rattle.cdb_publish.specs.declared.errors.PlanError.{PlanError}
+use Rattle.cdb_publish.specs.declared.errors.PlanError.TheVariants.{Memory, Large, Entries, Versions}
+
+-- The load of these sources is within its limit.
+pub record IsLight (heads : List SourceHead) : Type 0 where
+  pub load : ℕ
+  pub load_is : IsLoad heads load
+  pub fits : load ≤ 16384
+
+-- With them the entries are so many.
+pub record MakesEntries (kept : List Record) (heads : List SourceHead) (count : ℕ) : Type 0 where
+  pub tiles : List Tile
+  pub touched : IsTouched heads tiles
+  pub count_is : count ≡ entries_in kept + length tiles
+
+-- What the first refusals say.
+abbrev pub IsTooHeavy : List SourceHead → PlanError → Type 0
+IsTooHeavy heads Memory = Unit {0}
+IsTooHeavy heads (Large count) = IsLoad heads count × (16384 < count)
+IsTooHeavy heads (Entries count) = ⊥
+IsTooHeavy heads Versions = ⊥
+
+-- What a refusal says, each behind those before it.
+abbrev pub Refuses : List Record → List SourceHead → PlanError → Type 0
+Refuses kept heads Memory = Unit {0}
+Refuses kept heads (Large count) = IsLoad heads count × (16384 < count)
+Refuses kept heads (Entries count) = IsLight heads × MakesEntries kept heads count × (1000000 < count)
+Refuses kept heads Versions = IsLight heads × ((count : ℕ) × MakesEntries kept heads count × (count ≤ 1000000))
+    × (length kept ≡ 4096)
+
+-- What none of them applies to.
+abbrev pub IsAccepted : List Record → List SourceHead → Type 0
+IsAccepted kept heads = IsLight heads × ((count : ℕ) × MakesEntries kept heads count × (count ≤ 1000000))
+    × (length kept < 4096)
+
+-- The paths of a publication's files but its record's, by their numbers.
+abbrev pub source_paths : ℕ → ℕ → ℕ → List Text
+source_paths version from zero = []
+source_paths version from (suc count) = source_path version from ∷ source_paths version (from + 1) count
+
+abbrev pub paths_in : ℕ → ℕ → List Tile → List Text
+paths_in version sources tiles = source_paths version 1 sources ++ map (path version) tiles
+
+-- A text more at the end, where it isn't among them.
+abbrev pub once_more : List Text → Text → List Text
+once_more texts text = if list_any (λ other. bytes_eq other text) texts then texts else texts ++ text ∷ []

@@ -1,0 +1,58 @@
+//! The rest of a tile from the tile of the same name in an earlier version.
+ghost use Rattle.std.specs.Prelude.{◌≡◌, ◌+◌, ◌*◌, ◌≤◌, ◌++◌, List, length, OnOk, IfErr};
+ghost use Rattle.cdb_grid.specs.Tiles.{tile_side};
+ghost use Rattle.cdb_source.specs.declared.source.Source as given;
+ghost use Rattle.cdb_files.specs.Moments.{Rests};
+ghost use Rattle.cdb_cut.specs.Laws.{IsOwn};
+ghost use Rattle.cdb_cut.specs.OneTile.{IsFrameOf, IsPaintedBy};
+ghost use Rattle.cdb_publish.specs.Causes.{IsCaused};
+ghost use Rattle.cdb_publish.specs.LookUps.{look_before, needs_of, IsNamed};
+ghost use Rattle.cdb_publish.specs.Needs.{TellsSizes, IsDamage};
+
+use crate::errors::StepError;
+use crate::look_up::look_before;
+use crate::plan::Plan;
+use crate::tile_read::read_named;
+use cdb_chain::Chain;
+use cdb_cut::fill;
+use cdb_files::Disk;
+use cdb_grid::{Tile, side};
+
+/// Fills what has no value from the newest earlier tile, where there is one. `bytes` and `scratch` have
+/// room for the largest tile.
+pub(crate) fn fill_older<D: Disk>(
+    plan: &Plan,
+    chain: &Chain,
+    tile: &Tile,
+    bytes: &mut [u8],
+    scratch: &mut [i16],
+    frame: &mut [i16],
+    disk: &mut D,
+) -> Result<(), StepError>
+    requires bytes { 2097338 ≤ length bytes.old }
+    requires scratch { 1048576 ≤ length scratch.old }
+    requires frame { length frame.old ≡ tile_side tile.now * tile_side tile.now }
+    ensures filled { D.tells → (ss x : List given.Source) → IsOwn tile.now.family
+        → IsNamed (D.state disk.old).present ss tile.now (look_before plan.now chain.now.records tile.now)
+        → IsPaintedBy (ss ++ x) tile.now x frame.old → OnOk result (IsFrameOf (ss ++ x) tile.now frame.new) }
+    ensures sizes { D.tells → TellsSizes (D.state disk.old).present (needs_of tile.now
+        (look_before plan.now chain.now.records tile.now)) result }
+    ensures damage { IfErr result IsDamage }
+    ensures state { D.state disk.new ≡ D.state disk.old }
+    ensures time { Rests (D.clock disk.old) (D.clock disk.new) (D.since disk.old) (D.since disk.new) }
+    ensures cause { IsCaused (D.fault_count disk.old) (D.fault_count disk.new) result }
+    ensures reads { D.read_count disk.new ≤ D.read_count disk.old + length (needs_of tile.now
+        (look_before plan.now chain.now.records tile.now)) }
+{
+    let version = look_before(plan, chain, tile);
+    let size = side(tile.level) as usize * side(tile.level) as usize;
+    let older = &mut scratch[..size];
+    match read_named(version, tile, bytes, older, disk) {
+        Ok(true) => {
+            fill(tile, older, frame);
+            Ok(())
+        }
+        Ok(false) => Ok(()),
+        Err(error) => Err(error),
+    }
+}

@@ -1,0 +1,83 @@
+//! The values of a tile from its file.
+ghost use Rattle.std.specs.Prelude.{◌≡◌, ◌+◌, ◌*◌, ◌/◌, ◌≤◌, ◌==◌, ◌||◌, IsTrue, ◌∷◌, [], List, Some, length, OnOk};
+ghost use Rattle.std.specs.Prelude.{IfOk, IfErr, IfSome};
+ghost use Rattle.cdb_grid.specs.Tiles.{tile_side};
+ghost use Rattle.cdb_source.specs.declared.source.Source as given;
+ghost use Rattle.cdb_model.specs.Names.{path};
+ghost use Rattle.cdb_model.specs.TileFile.{bits_of, tile_bytes};
+ghost use Rattle.cdb_files.specs.Moments.{Rests};
+ghost use Rattle.cdb_cut.specs.OneTile.{IsFrameOf};
+ghost use Rattle.cdb_tiff_write.specs.Rasters.{tile_size};
+ghost use Rattle.cdb_publish.specs.Causes.{IsCaused};
+ghost use Rattle.cdb_publish.specs.LookUps.{needs_of, IsNamed, IsReadFrame};
+ghost use Rattle.cdb_publish.specs.Needs.{TellsSizes, IsDamage};
+
+use crate::errors::StepError;
+use crate::reads::read_sized;
+use cdb_files::Disk;
+use cdb_grid::{Tile, side};
+use cdb_names::write_path;
+use cdb_tiff_write::{bits, posts_of, tile_size};
+
+/// Reads the values of a version's tile, the south row first. `bytes` has room for the largest tile.
+pub(crate) fn read_tile<D: Disk>(
+    version: u32,
+    tile: &Tile,
+    bytes: &mut [u8],
+    frame: &mut [i16],
+    disk: &mut D,
+) -> Result<(), StepError>
+    requires least { 1 ≤ version }
+    requires most { version ≤ 4096 }
+    requires bytes { 2097338 ≤ length bytes.old }
+    requires frame { length frame.old ≡ tile_side tile.now * tile_side tile.now }
+    ensures frame { D.tells → (ss : List given.Source) → (D.state disk.old).present (path version tile.now) ≡ Some
+        (tile_bytes ss tile.now) → OnOk result (IsFrameOf ss tile.now frame.new) }
+    ensures sizes { D.tells → TellsSizes (D.state disk.old).present
+        (record { path = path version tile.now; size = tile_size tile.now } ∷ []) result }
+    ensures damage { IfErr result IsDamage }
+    ensures state { D.state disk.new ≡ D.state disk.old }
+    ensures time { Rests (D.clock disk.old) (D.clock disk.new) (D.since disk.old) (D.since disk.new) }
+    ensures cause { IsCaused (D.fault_count disk.old) (D.fault_count disk.new) result }
+    ensures reads { D.read_count disk.new ≤ D.read_count disk.old + 1 }
+{
+    let path = write_path(version, tile);
+    let bytes = &mut bytes[..tile_size(tile)];
+    match read_sized(disk, &path, bytes) {
+        Ok(()) => {}
+        Err(error) => return Err(error),
+    }
+    posts_of(bytes, side(tile.level), bits(tile.family), frame);
+    Ok(())
+}
+
+/// Reads the values of the tile that a look-up named, and says whether it named one. `bytes` and `frame`
+/// have room for the largest tile.
+pub(crate) fn read_named<D: Disk>(
+    version: Option<u32>,
+    tile: &Tile,
+    bytes: &mut [u8],
+    frame: &mut [i16],
+    disk: &mut D,
+) -> Result<bool, StepError>
+    requires least { IfSome version (λ v. 1 ≤ v) }
+    requires most { IfSome version (λ v. v ≤ 4096) }
+    requires bytes { 2097338 ≤ length bytes.old }
+    requires frame { length frame.old ≡ tile_side tile.now * tile_side tile.now }
+    ensures frame { D.tells → (ss : List given.Source) → IsNamed (D.state disk.old).present ss tile.now version
+        → IfOk result (IsReadFrame ss tile.now frame.new) }
+    ensures sizes { D.tells → TellsSizes (D.state disk.old).present (needs_of tile.now version) result }
+    ensures damage { IfErr result IsDamage }
+    ensures state { D.state disk.new ≡ D.state disk.old }
+    ensures time { Rests (D.clock disk.old) (D.clock disk.new) (D.since disk.old) (D.since disk.new) }
+    ensures cause { IsCaused (D.fault_count disk.old) (D.fault_count disk.new) result }
+    ensures reads { D.read_count disk.new ≤ D.read_count disk.old + length (needs_of tile.now version) }
+{
+    let Some(version) = version else {
+        return Ok(false);
+    };
+    match read_tile(version, tile, bytes, frame, disk) {
+        Ok(()) => Ok(true),
+        Err(error) => Err(error),
+    }
+}

@@ -1,0 +1,195 @@
+//! The values of a tile, by its family.
+ghost use Rattle.std.specs.Prelude.{◌≡◌, ℕ, ◌+◌, ◌*◌, ◌≤◌, ◌++◌, [], List, length, OnOk, IfErr, replicate};
+ghost use Rattle.cdb_grid.specs.Tiles.{tile_side};
+ghost use Rattle.cdb_source.specs.declared.source.Source as given;
+ghost use Rattle.cdb_source.specs.Posts.{none_of};
+ghost use Rattle.cdb_source.specs.Reached.{kind_of};
+ghost use Rattle.cdb_files.specs.Moments.{Rests};
+ghost use Rattle.cdb_cut.specs.Laws.{IsOwn, IsExtreme};
+ghost use Rattle.cdb_cut.specs.OneTile.{IsFrameOf, IsFolded, nothing};
+ghost use Rattle.cdb_publish.specs.Causes.{IsCaused};
+ghost use Rattle.cdb_publish.specs.Folding.{AreChildren};
+ghost use Rattle.cdb_publish.specs.TileFiles.{HasFiles, own_needs, elevation_of, extreme_needs, family_needs};
+ghost use Rattle.cdb_publish.specs.Needs.{TellsSizes, IsDamage};
+ghost use Rattle.cdb_publish.specs.Windows.{HasRoom};
+
+use crate::errors::StepError;
+use crate::folding::fold_children;
+use crate::older::fill_older;
+use crate::plan::Plan;
+use crate::tile_read::read_tile;
+use crate::windows::paint_sources;
+use cdb_chain::Chain;
+use cdb_files::Disk;
+use cdb_grid::{Family, Tile};
+
+/// The number that stands for no value.
+fn none_of(family: Family) -> i16
+    ensures { result ≡ none_of (kind_of family) }
+{
+    match family {
+        Family::Elev | Family::Low | Family::High => -32768,
+        Family::Mat => 0,
+    }
+}
+
+/// Leaves a frame without values.
+fn clear(tile: &Tile, frame: &mut [i16])
+    requires { length frame.old ≡ tile_side tile.now * tile_side tile.now }
+    ensures { (ss : List given.Source) → IsFolded ss tile.now nothing [] frame.new }
+{
+    let none = none_of(tile.family);
+    for k in 0..frame.len() {
+        frame[k] = none;
+    }
+}
+
+/// The tile of elevations of the same cells.
+fn elevation_of(tile: &Tile) -> Tile
+    ensures { result ≡ elevation_of tile.now }
+{
+    Tile {
+        family: Family::Elev,
+        cell: tile.cell,
+        level: tile.level,
+        up: tile.up,
+        right: tile.right,
+    }
+}
+
+/// Makes the values of a tile of elevations or of materials.
+fn make_own<D: Disk>(
+    plan: &Plan,
+    chain: &Chain,
+    tile: &Tile,
+    children: &[Tile],
+    bytes: &mut [u8],
+    scratch: &mut [i16],
+    window_bytes: &mut [u8],
+    window_posts: &mut [i16],
+    frame: &mut [i16],
+    disk: &mut D,
+) -> Result<(), StepError>
+    requires own { IsOwn tile.now.family }
+    requires children { AreChildren tile.now children.now }
+    requires bytes { 2097338 ≤ length bytes.old }
+    requires scratch { 1048576 ≤ length scratch.old }
+    requires room { HasRoom plan.now.record.heads tile.now (length window_posts.old) }
+    requires window_bytes { 2 * length window_posts.old ≤ length window_bytes.old }
+    requires frame { length frame.old ≡ tile_side tile.now * tile_side tile.now }
+    ensures values { D.tells → (ss x : List given.Source)
+        → HasFiles plan.now chain.now.records (D.state disk.old).present ss x tile.now children.now
+        → OnOk result (IsFrameOf (ss ++ x) tile.now frame.new) }
+    ensures sizes { D.tells → TellsSizes (D.state disk.old).present
+        (own_needs plan.now chain.now.records tile.now children.now) result }
+    ensures damage { IfErr result IsDamage }
+    ensures state { D.state disk.new ≡ D.state disk.old }
+    ensures time { Rests (D.clock disk.old) (D.clock disk.new) (D.since disk.old) (D.since disk.new) }
+    ensures cause { IsCaused (D.fault_count disk.old) (D.fault_count disk.new) result }
+    ensures reads { D.read_count disk.new ≤ D.read_count disk.old + length
+        (own_needs plan.now chain.now.records tile.now children.now) }
+{
+    clear(tile, frame);
+    match fold_children(plan, chain, tile, children, bytes, scratch, frame, disk) {
+        Ok(()) => {}
+        Err(error) => return Err(error),
+    }
+    match paint_sources(plan, tile, window_bytes, window_posts, frame, disk) {
+        Ok(()) => {}
+        Err(error) => return Err(error),
+    }
+    match fill_older(plan, chain, tile, bytes, scratch, frame, disk) {
+        Ok(()) => Ok(()),
+        Err(error) => Err(error),
+    }
+}
+
+/// Makes the values of a tile of least or of greatest elevations.
+fn make_extreme<D: Disk>(
+    plan: &Plan,
+    chain: &Chain,
+    tile: &Tile,
+    children: &[Tile],
+    bytes: &mut [u8],
+    scratch: &mut [i16],
+    frame: &mut [i16],
+    disk: &mut D,
+) -> Result<(), StepError>
+    requires extreme { IsExtreme tile.now.family }
+    requires children { AreChildren tile.now children.now }
+    requires bytes { 2097338 ≤ length bytes.old }
+    requires scratch { 1048576 ≤ length scratch.old }
+    requires frame { length frame.old ≡ tile_side tile.now * tile_side tile.now }
+    ensures values { D.tells → (ss x : List given.Source)
+        → HasFiles plan.now chain.now.records (D.state disk.old).present ss x tile.now children.now
+        → OnOk result (IsFrameOf (ss ++ x) tile.now frame.new) }
+    ensures sizes { D.tells → TellsSizes (D.state disk.old).present
+        (extreme_needs plan.now chain.now.records tile.now children.now) result }
+    ensures damage { IfErr result IsDamage }
+    ensures state { D.state disk.new ≡ D.state disk.old }
+    ensures time { Rests (D.clock disk.old) (D.clock disk.new) (D.since disk.old) (D.since disk.new) }
+    ensures cause { IsCaused (D.fault_count disk.old) (D.fault_count disk.new) result }
+    ensures reads { D.read_count disk.new ≤ D.read_count disk.old + length
+        (extreme_needs plan.now chain.now.records tile.now children.now) }
+{
+    let elevations = elevation_of(tile);
+    match read_tile(plan.record.version, &elevations, bytes, frame, disk) {
+        Ok(()) => {}
+        Err(error) => return Err(error),
+    }
+    match fold_children(plan, chain, tile, children, bytes, scratch, frame, disk) {
+        Ok(()) => Ok(()),
+        Err(error) => Err(error),
+    }
+}
+
+/// Makes the values of a tile. `bytes` and `scratch` have room for the largest tile, and the frames of
+/// windows for the rows of each source that the tile takes.
+pub(crate) fn make_values<D: Disk>(
+    plan: &Plan,
+    chain: &Chain,
+    tile: &Tile,
+    children: &[Tile],
+    bytes: &mut [u8],
+    scratch: &mut [i16],
+    window_bytes: &mut [u8],
+    window_posts: &mut [i16],
+    frame: &mut [i16],
+    disk: &mut D,
+) -> Result<(), StepError>
+    requires children { AreChildren tile.now children.now }
+    requires bytes { 2097338 ≤ length bytes.old }
+    requires scratch { 1048576 ≤ length scratch.old }
+    requires room { HasRoom plan.now.record.heads tile.now (length window_posts.old) }
+    requires window_bytes { 2 * length window_posts.old ≤ length window_bytes.old }
+    requires frame { length frame.old ≡ tile_side tile.now * tile_side tile.now }
+    ensures values { D.tells → (ss x : List given.Source)
+        → HasFiles plan.now chain.now.records (D.state disk.old).present ss x tile.now children.now
+        → OnOk result (IsFrameOf (ss ++ x) tile.now frame.new) }
+    ensures sizes { D.tells → TellsSizes (D.state disk.old).present
+        (family_needs tile.now.family plan.now chain.now.records tile.now children.now) result }
+    ensures damage { IfErr result IsDamage }
+    ensures state { D.state disk.new ≡ D.state disk.old }
+    ensures time { Rests (D.clock disk.old) (D.clock disk.new) (D.since disk.old) (D.since disk.new) }
+    ensures cause { IsCaused (D.fault_count disk.old) (D.fault_count disk.new) result }
+    ensures reads { D.read_count disk.new ≤ D.read_count disk.old + length
+        (family_needs tile.now.family plan.now chain.now.records tile.now children.now) }
+{
+    match tile.family {
+        Family::Elev | Family::Mat => make_own(
+            plan,
+            chain,
+            tile,
+            children,
+            bytes,
+            scratch,
+            window_bytes,
+            window_posts,
+            frame,
+            disk,
+        ),
+        Family::Low | Family::High => {
+            make_extreme(plan, chain, tile, children, bytes, scratch, frame, disk)
+        }
+    }
+}
