@@ -8,3 +8,12 @@ pub mod SpelledLaws
 pub mod TileAnswers
 pub mod OneSource
 pub mod AnswerLaws
+pub mod NoStep
+pub mod StayLaws
+pub mod StepCounts
+pub mod StepTracks
+pub mod PublishTracks
+pub mod TileTracks
+pub mod OpenTracks
+pub mod SessionTracks
+pub mod StepThen

@@ -1,6 +1,11 @@
 pub mod Answers
+pub mod Held
 pub mod Laws
 pub mod Loading
 pub mod Pieces
 pub mod Rasters
+pub mod Stays
+pub mod Store
+pub mod StoreAnswers
+pub mod Tracks
 pub mod Words

@@ -15,6 +15,7 @@ mod reply;
 mod sessions;
 mod source_file;
 mod sources;
+pub mod store;
 #[cfg(test)]
 mod tests;
 mod tile_file;

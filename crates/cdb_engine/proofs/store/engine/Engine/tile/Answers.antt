@@ -1,0 +1,16 @@
+use Rattle.std.proofs.Common.{◌≡◌, sym, subst}
+use Rattle.cdb_model.specs.Stores.{Which, kind_of}
+use Rattle.cdb_model.specs.Transitions.{StateIn, AsksIn}
+use Rattle.cdb_engine.specs.Held.{Held, held_of}
+use Rattle.cdb_engine.specs.StoreAnswers.{tile_answer}
+use Rattle.cdb_engine.specs.Stays.{Stays}
+use Rattle.cdb_engine.specs.Tracks.{Origin, Leads}
+use Rattle.cdb_engine.proofs.TileTracks.{asks_then}
+use Rattle.cdb_engine.proofs.store.engine.Engine.tile.Goals as goal
+
+pub returns-clause-asks : goal.returns-clause-asks
+returns-clause-asks g c = λ w origin s stays.
+    let old : Held = held_of c.self.inside.chain c.self.inside.work c.self.inside.pending.items c.self.inside.sessions c.self.inside.halted in
+    asks_then g.D.Disk.tells g.D.Disk.clock g.D.Disk.fault_count g.D.Disk.since g.D.Disk.state c.args.disk.now c.tile.new.disk c.self.inside.chain c.self.inside.work c.self.inside.pending.items c.self.inside.halted c.args.id c.args.tile.now
+    c.self.inside.sessions c.tile.new.self c.tile.result c.tile.ensures.open c.tile.ensures.served c.tile.ensures.current (g.met.D.Disk.present_possible c.args.disk.now) c.tile.ensures.state c.tile.ensures.time c.tile.ensures.later w origin s
+    (subst (λ (h : Held). Stays g.D.Disk.tells g.D.Disk.clock g.D.Disk.fault_count g.D.Disk.since g.D.Disk.state origin c.args.disk.now h w s) (sym c.self.view_is) stays)

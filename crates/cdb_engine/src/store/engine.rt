@@ -1,0 +1,256 @@
+ghost use Rattle.std.specs.Prelude.{◌≡◌, ◌≢◌, ◌++◌, ◌∷◌, ◌+◌, ◌<◌, ◌≤◌, ◌↔◌, ℕ, List, [], None, length, is_some, IsSome, IfOk, IfErr, OnOk, OnErr, Err};
+ghost use Rattle.cdb_source.specs.declared.source.Source as given;
+ghost use Rattle.cdb_model.specs.Causes.{Rose};
+ghost use Rattle.cdb_model.specs.Events as machine;
+ghost use Rattle.cdb_model.specs.Grammar.{InlineSource, FileSource, inline_in, file_in};
+ghost use Rattle.cdb_model.specs.ImageFiles.{SpellsNone};
+ghost use Rattle.cdb_model.specs.KnownStore.{State};
+ghost use Rattle.cdb_model.specs.Maps.{Content};
+ghost use Rattle.cdb_model.specs.Sessions.{session_of};
+ghost use Rattle.cdb_model.specs.Spelled.{SpellsSource};
+ghost use Rattle.cdb_model.specs.Stores.{Which, kind_of};
+ghost use Rattle.cdb_model.specs.Transitions.{StateIn, IsReadyIn, GivesIn, LoadsIn, ConnectsIn, AsksIn, DisconnectsIn, TellsIn};
+ghost use Rattle.cdb_files.specs.Moments.{AddsOnly, Rests};
+ghost use Rattle.cdb_engine.specs.Loading.{LoadOutcome};
+ghost use Rattle.cdb_engine.specs.StoreAnswers.{ready_answer, session_answer, close_answer, advance_answer, tile_answer, HasBytes, TriesIn, HaltsBy, AdvanceCause, left_in};
+ghost use Rattle.cdb_engine.specs.Stays.{Stays, Shows, ChangesAlike};
+ghost use Rattle.cdb_engine.specs.Tracks.{Origin, Tracks, Leads, DuringNow};
+
+use crate::errors::{InlineError, LoadError, SubmitRefused};
+use crate::posts::spelled;
+use crate::reply::Opened;
+use crate::source_file::loaded;
+use crate::store::errors::{AdvanceError, ReadyError};
+use crate::store::settle::{Settled, settle};
+use crate::{InlineOrder, LoadOrder};
+use cdb_chain::Chain;
+use cdb_files::{Disk, Shelf};
+use cdb_grid::Tile;
+use cdb_publish::{Progress, Publication};
+use cdb_sessions::{Reply, SessionError, Sessions, TileError, Unknown};
+use cdb_source::Source;
+use std::alloc::Global;
+use std::marker::Model;
+
+/// How many sources can be pending.
+const MOST: usize = 64;
+
+/// The records of the versions, the publication that is going, the sources that are pending, the open
+/// sessions with the tiles that were read last, and the count of the disk's failed calls at which the
+/// writer was halted.
+#[derive(Drop)]
+pub struct Engine {
+    pub(crate) chain: Chain,
+    pub(crate) work: Option<Publication>,
+    pub(crate) pending: Vec<Source>,
+    pub(crate) sessions: Sessions,
+    pub(crate) halted: Option<u64>,
+}
+
+impl Model for Engine {
+    ghost use Rattle.std.specs.Coded.{codes};
+    ghost use Rattle.cdb_publish.specs.contracts.publication.Publication as publish;
+    ghost use Rattle.cdb_engine.specs.Held.{Held, held_of, IsEngine};
+
+    ghost Value = { Held };
+
+    ghost coded = { Prim.hlevel (codes, publish.the_row.coded) };
+
+    ghost view = { λ e. held_of e.chain e.work e.pending.items e.sessions e.halted };
+
+    ghost invariant = { λ e. IsEngine e.chain e.work e.pending.items e.halted };
+}
+
+impl Engine {
+    /// Whether a source can be submitted. `Halted` comes first: a step of this opening failed or found
+    /// a file damaged. Then `Busy`: a publication is going. `Full`: 64 sources are pending.
+    pub fn ready(&self) -> Result<(), ReadyError>
+        ensures ok { (w : Which) (s : StateIn (kind_of w)) → Shows self.now w s → OnOk result (IsReadyIn (kind_of w) s) }
+        ensures gives { IfErr result (λ error. (w : Which) (s : StateIn (kind_of w)) (words : InlineSource)
+            → Shows self.now w s → GivesIn (kind_of w) s words (ready_answer error) s) }
+        ensures loads { IfErr result (λ error. (w : Which) (s : StateIn (kind_of w)) (words : FileSource) (content : Content)
+            → Shows self.now w s → LoadsIn (kind_of w) s words content (ready_answer error) s) }
+        ensures running { OnOk result (self.now.halted ≡ None) }
+        ensures idle { OnOk result (self.now.work ≡ None) }
+        ensures room { OnOk result (length self.now.pending < 64) }
+    {
+        if self.halted.is_some() {
+            Err(ReadyError::Halted)
+        } else if self.work.is_some() {
+            Err(ReadyError::Busy)
+        } else if self.pending.len() >= MOST {
+            Err(ReadyError::Full)
+        } else {
+            Ok(())
+        }
+    }
+
+    /// Whether a publication is going.
+    pub fn going(&self) -> bool
+        ensures { result ≡ is_some self.now.work }
+    {
+        self.work.is_some()
+    }
+
+    /// How many steps are left of the publication that is going, 0 where none is.
+    pub fn left(&self) -> u32
+        ensures { result ≡ left_in self.now.work }
+    {
+        match &self.work {
+            Some(work) => work.left(),
+            None => 0,
+        }
+    }
+
+    /// Where a step failed or found a file damaged, how many calls of the disk had failed then.
+    pub fn halted(&self) -> Option<u64>
+        ensures { result ≡ self.now.halted }
+    {
+        self.halted
+    }
+
+    /// The newest version.
+    pub fn versions(&self) -> u32
+        ensures tells { (w : Which) (s : StateIn (kind_of w)) → Shows self.now w s → TellsIn (kind_of w) s (machine.versions result) s }
+        ensures value { result ≡ length self.now.chain.records }
+        ensures most { result ≤ 4096 }
+    {
+        self.chain.newest()
+    }
+
+    /// Makes the source that an order spells. The number that has no value is -32768 for elevation
+    /// and 0 for material. `Range` exactly where the order spells no source: a level that isn't
+    /// one, a coordinate or a step that is no whole number of arc units or out of range, rows and
+    /// columns out of range, another number of posts, or a post out of range. `Memory`: memory for
+    /// the posts was refused.
+    pub fn inline(&self, alloc: Global, order: &InlineOrder) -> Result<Source, InlineError>
+        ensures spelled { IfOk result (SpellsSource (inline_in order.now)) }
+        ensures range { result ≡ Err InlineError.Range → SpellsNone (SpellsSource (inline_in order.now)) }
+    {
+        spelled(alloc, order)
+    }
+
+    /// Makes the source that an order spells with its file of the shelf, which is read in one
+    /// piece, opened as a TIFF file, and given row by row. The errors come in this order: `Shelf`
+    /// only where a call of the shelf failed, `Absent` exactly where there is no such file, `Big`
+    /// exactly where it has more than 67,108,864 bytes, `Input` exactly where it isn't a TIFF file
+    /// that is read, and `Range` exactly where the order spells no source with it. `Memory`: memory
+    /// for the bytes of the file or for the posts was refused.
+    pub fn load<H: Shelf>(
+        &self,
+        alloc: Global,
+        order: &LoadOrder,
+        shelf: &mut H,
+    ) -> Result<Source, LoadError>
+        ensures loads { LoadOutcome H.tells (H.files shelf.old order.now.path.bytes) (file_in order.now) result }
+        ensures files { H.files shelf.new ≡ H.files shelf.old }
+        ensures later { H.fault_count shelf.old ≤ H.fault_count shelf.new }
+        ensures failed { result ≡ Err LoadError.Shelf → Rose (H.fault_count shelf.old) (H.fault_count shelf.new) }
+    {
+        loaded(alloc, order, shelf)
+    }
+
+    /// Puts a source behind those that are pending, and answers how many are pending then. To be
+    /// called where `ready` answers Ok. Where memory was refused the source comes back.
+    pub fn submit(&mut self, source: Source) -> Result<u32, SubmitRefused>
+        requires running { self.old.halted ≡ None }
+        requires idle { self.old.work ≡ None }
+        requires room { length self.old.pending < 64 }
+        ensures number { IfOk result (λ number. number ≡ length self.old.pending + 1) }
+        ensures next { OnOk result (self.new ≡ record self.old { pending = self.old.pending ++ source ∷ [] }) }
+        ensures refused { IfErr result (λ refused. refused.source ≡ source) }
+        ensures err { OnErr result (self.new ≡ self.old) }
+    {
+        match self.pending.push(source) {
+            Ok(()) => Ok(self.pending.len() as u32),
+            Err(failed) => Err(SubmitRefused {
+                source: failed.value,
+            }),
+        }
+    }
+
+    /// Makes the next step of the publication that is going. `Halted` comes first: a step of this
+    /// opening failed or found a file damaged. Then `Nothing`: none is going. `Fault` only where a
+    /// call of the disk failed, and `Damaged` where a file that the step reads has another size than
+    /// its form gives: the publication is given up then, and the writer halted at the count of failed
+    /// calls that the disk tells. It takes no memory.
+    pub fn step<D: Disk>(&mut self, disk: &mut D) -> Result<Progress, AdvanceError>
+        ensures step { (w : Which) (origin : Origin) (s : StateIn (kind_of w))
+            → Stays D.tells D.clock D.fault_count D.since D.state origin disk.old self.old w s
+            → Leads (TriesIn (kind_of w) s (advance_answer result))
+            (Stays D.tells D.clock D.fault_count D.since D.state origin disk.new self.new w) }
+        ensures moments { (s : State) → D.tells → Tracks self.old (D.state disk.old) s
+            → AddsOnly D.clock D.since disk.old disk.new (DuringNow s.list s.going) }
+        ensures halt { HaltsBy result self.old.halted self.new.halted (D.fault_count disk.new) }
+        ensures reply { self.new.reply ≡ self.old.reply }
+        ensures kept { self.new.kept ≡ self.old.kept }
+        ensures later { D.fault_count disk.old ≤ D.fault_count disk.new }
+        ensures cause { AdvanceCause result (D.fault_count disk.old) (D.fault_count disk.new) }
+    {
+        if self.halted.is_some() {
+            return Err(AdvanceError::Halted);
+        }
+        let Some(mut work) = self.work.take() else {
+            return Err(AdvanceError::Nothing);
+        };
+        let made = work.step(&mut self.chain, disk);
+        let Settled {
+            work,
+            halted,
+            answer,
+        } = settle(made, work, disk.faults());
+        self.work = work;
+        self.halted = halted;
+        answer
+    }
+
+    /// Opens a session at the newest version. Numbers are 1, 2, 3 and so on, and none is used again.
+    /// `Many`: 64 sessions are open. `Memory`: memory was refused, or `2^32 - 1` sessions were opened.
+    pub fn open_session(&mut self) -> Result<Opened, SessionError>
+        ensures connects { (w : Which) (s : StateIn (kind_of w)) → Shows self.old w s
+            → Leads (ConnectsIn (kind_of w) s (session_answer result)) (ChangesAlike self.old self.new w s) }
+    {
+        let version = self.chain.newest();
+        match self.sessions.open(version) {
+            Ok(id) => Ok(Opened { id, version }),
+            Err(error) => Err(error),
+        }
+    }
+
+    /// Ends the session of this number. `Unknown`: no session of that number is open.
+    pub fn close_session(&mut self, id: u32) -> Result<(), Unknown>
+        ensures disconnects { (w : Which) (s : StateIn (kind_of w)) → Shows self.old w s
+            → Leads (DisconnectsIn (kind_of w) s id (close_answer result)) (ChangesAlike self.old self.new w s) }
+    {
+        self.sessions.close(id)
+    }
+
+    /// Asks for a tile in a session, which answers from the publications up to its version. Where
+    /// a source of these reaches the tile, `Engine::reply` has the bytes of its file then; in every
+    /// other case, an error included, it is empty. It takes no memory, and changes no session and no
+    /// publication. `Unknown`: no session of that number is open. `Fault` only where a call of the
+    /// disk failed. `Damaged`: the tile's file isn't there or has another size than its form gives.
+    pub fn tile<D: Disk>(&mut self, id: u32, tile: &Tile, disk: &mut D) -> Result<Reply, TileError>
+        ensures asks { (w : Which) (origin : Origin) (s : StateIn (kind_of w))
+            → Stays D.tells D.clock D.fault_count D.since D.state origin disk.old self.old w s
+            → Leads (AsksIn (kind_of w) s id tile.now (tile_answer result self.new.reply))
+            (Stays D.tells D.clock D.fault_count D.since D.state origin disk.new self.new w) }
+        ensures same { self.new ≡ record self.old { kept = self.new.kept; reply = self.new.reply } }
+        ensures bytes { HasBytes result self.new.reply }
+        ensures state { D.state disk.new ≡ D.state disk.old }
+        ensures time { Rests (D.clock disk.old) (D.clock disk.new) (D.since disk.old) (D.since disk.new) }
+        ensures reads { D.read_count disk.new ≤ D.read_count disk.old + 1 }
+        ensures later { D.fault_count disk.old ≤ D.fault_count disk.new }
+        ensures cause { result ≡ Err TileError.Fault → Rose (D.fault_count disk.old) (D.fault_count disk.new) }
+    {
+        self.sessions.tile(id, tile, &self.chain, disk)
+    }
+
+    /// The bytes of the file of the tile that was asked for last; none where that request was answered
+    /// `Missing` or by an error, and none before the first request.
+    pub fn reply(&self) -> &[u8]
+        ensures { result.now ≡ self.now.reply }
+    {
+        self.sessions.reply()
+    }
+}
