@@ -17,7 +17,8 @@ impl<W: Write> StdOutput<W> {
     }
 }
 
-/// A writer that takes nothing of a piece that isn't empty has failed.
+/// A writer that takes nothing of a piece that isn't empty has failed. So has one that can't flush what
+/// it took: of that some first bytes may be written, and the last one isn't.
 fn write_flushed<W: Write>(writer: &mut W, piece: &[u8]) -> Result<usize, Failed>
     ensures most { IfOk result (λ n. n ≤ length piece.now) }
     ensures least { IfOk result (λ n. 0 < length piece.now → 0 < n) }

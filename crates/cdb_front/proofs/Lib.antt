@@ -6,3 +6,11 @@ pub mod Lines
 pub mod Turns
 pub mod Quits
 pub mod Acknowledged
+pub mod Walk
+pub mod RunProgress
+pub mod RunEnds
+pub mod Exits
+pub mod Many
+pub mod GoingOn
+pub mod Completing
+pub mod InTime

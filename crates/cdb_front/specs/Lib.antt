@@ -6,3 +6,15 @@ pub mod Hearing
 pub mod Progress
 pub mod Outcome
 pub mod Reading
+pub mod EntryStore
+pub mod Followed
+pub mod Stepping
+pub mod AnswerMeanings
+pub mod StatusCodes
+pub mod RunProgress
+pub mod RunOutcome
+pub mod RunReading
+pub mod Headline
+pub mod Completeness
+pub mod GoesOn
+pub mod WordedRuns

@@ -14,7 +14,9 @@ pub trait Output {
     ghost fault_count: { Self → ℕ };
 
     /// Writes the first bytes of `piece`, at least one where there is one, and answers how many. A
-    /// call that fails has written nothing, or some of the first bytes and not all.
+    /// call that fails has written nothing, or some of the first bytes and not all. A byte that was
+    /// taken is written once it is handed on: where what was taken can't be flushed, the last byte of
+    /// it isn't written.
     fn write(&mut self, piece: &[u8]) -> Result<usize, Failed>
         ensures most { IfOk result (λ n. n ≤ length piece.now) }
         ensures least { IfOk result (λ n. 0 < length piece.now → 0 < n) }

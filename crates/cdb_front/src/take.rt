@@ -1,10 +1,8 @@
 ghost use Rattle.std.specs.Prelude.{◌≡◌, ◌≢◌, ℕ, ◌≤◌, List, Option};
 ghost use Rattle.cdb_model.specs.Causes.{Rose};
-ghost use Rattle.cdb_model.specs.Commands.{Command, line_command, spoken};
-ghost use Rattle.cdb_model.specs.Grammar.{line_of};
+ghost use Rattle.cdb_model.specs.Commands.{Command};
 ghost use Rattle.cdb_model.specs.Maps.{FileMap};
-ghost use Rattle.cdb_front.specs.Hearing.{IsAnswered, IsHeard, Says, SaysAsked};
-ghost use Rattle.cdb_front.specs.Kept.{kept_of};
+ghost use Rattle.cdb_front.specs.Hearing.{IsAnswered, SaysAsked};
 ghost use Rattle.cdb_front.specs.Progress.{Sofar, SpeaksFed, TakesLine, TakesByte, TakesPiece};
 
 use crate::answer_line::answer;
@@ -12,37 +10,11 @@ use crate::fed::Fed;
 use crate::heard::{Asked, Heard};
 use crate::line_maker::LineMaker;
 use crate::output::Output;
+use crate::read_kept::read_kept;
 use crate::say::say;
-use cdb_commands::read_line;
 use cdb_engine::Engine;
 use cdb_files::Shelf;
-use cdb_model::{Line, LineError};
 use std::alloc::Global;
-
-/// What a line of at most 4,096 bytes is.
-fn hear(bytes: &[u8]) -> Heard
-    ensures said { Says result (spoken (line_of bytes.now)) }
-    ensures heard { IsHeard result }
-{
-    match read_line(bytes) {
-        Ok(Line::Blank) => Heard::Blank,
-        Ok(Line::Quit) => Heard::Quit,
-        Ok(line) => Heard::Event(Asked::Line(line)),
-        Err(LineError::Syntax) => Heard::Event(Asked::Syntax),
-        Err(LineError::Name { place }) => Heard::Event(Asked::Name(place)),
-    }
-}
-
-/// What the line that was kept is.
-fn read_kept(maker: &LineMaker) -> Heard
-    ensures said { (text : List ℕ) → maker.now ≡ kept_of text → Says result (line_command text) }
-    ensures heard { IsHeard result }
-{
-    match maker.line() {
-        Some(bytes) => hear(bytes),
-        None => Heard::Event(Asked::Long),
-    }
-}
 
 /// Answers a line that is an event, and writes the answer.
 fn answer_event<H: Shelf, O: Output>(

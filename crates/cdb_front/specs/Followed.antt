@@ -1,0 +1,44 @@
+-- A state that is followed on a disk since a run began, and what the disk is at its end.
+use Rattle.std.specs.Prelude.{◌≡◌, List, None, Some}
+use Rattle.cdb_model.specs.Begun.{HasBegun}
+use Rattle.cdb_model.specs.Images.{Base, StandsSince}
+use Rattle.cdb_model.specs.KnownStore.{State, Going}
+use Rattle.cdb_model.specs.Maps.{FileMap}
+use Rattle.cdb_model.specs.Publications.{Publication}
+use Rattle.cdb_model.specs.Stands.{Stands}
+use Rattle.cdb_model.specs.Stores.{Which, kind_of, any_store}
+use Rattle.cdb_model.specs.Transitions.{StateIn, IsFreshIn}
+use Rattle.cdb_crash.specs.Crash.{IsWhole, IsEither}
+use Rattle.cdb_files.specs.Disk as disk
+use Rattle.cdb_files.specs.Disk.{IsImage}
+
+-- what an event leads to: a next state, which is one of now
+pub record Leads {S : Type 0} (Step : S → Type 0) (Now : S → Type 0) : Type 0 where
+  pub next : S
+  pub step : Step next
+  pub now : Now next
+
+-- states of a known store, and of any
+abbrev pub Sight : Type 1
+Sight = (w : Which) → StateIn (kind_of w) → Type 0
+
+-- a disk is whole for the list of a state, or, where a publication was given up, each image stands for the list or for
+-- the list followed by that one; where one was given up, none is going
+pub record IsLeftBy (s : State) (d : disk.State) : Type 0 where
+  pub whole : s.halted ≡ None → IsWhole Stands s.list d
+  pub either : (x : Publication) → s.halted ≡ Some x → (m : FileMap) → IsImage d m → IsEither Stands s.list x m
+  pub one : (now : Going) (x : Publication) → s.going ≡ Some now → s.halted ≡ Some x → ⊥
+
+-- a state of a run that began with a store: whatever a crash left since then stands for the store's list followed by the
+-- first of the publications begun
+pub record IsFollowed (base : Base) (s : State) (Since : FileMap → Type 0) (d : disk.State) : Type 0 where
+  pub begun : List Publication
+  pub has_begun : HasBegun base.list s begun
+  pub since : (m : FileMap) → Since m → StandsSince base begun m
+  pub left : IsLeftBy s d
+
+-- whatever the disk holds, a state is one of now in which nothing is pending, going or open
+pub record IsBegun (Now : StateIn any_store → Type 0) : Type 0 where
+  pub start : StateIn any_store
+  pub fresh : IsFreshIn any_store start
+  pub now : Now start

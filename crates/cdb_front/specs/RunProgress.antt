@@ -1,0 +1,177 @@
+-- How far a run has come: what was read, answered and written.
+use Rattle.std.specs.Prelude.{◌≡◌, ◌≢◌, ℕ, List, [], ◌∷◌, ◌++◌, Option, None, Some}
+use Rattle.std.specs.Io.KnownBytes.{Appends}
+use Rattle.cdb_model.specs.Text.{Text}
+use Rattle.cdb_model.specs.Maps.{Content, FileMap}
+use Rattle.cdb_model.specs.Commands as said
+use Rattle.cdb_model.specs.Commands.{Command, line_command}
+use Rattle.cdb_model.specs.Lines.{Cut, HaveNoQuit}
+use Rattle.cdb_model.specs.Events as machine
+use Rattle.cdb_model.specs.Stores.{Which, known, any, kind_of, any_store}
+use Rattle.cdb_model.specs.Transitions.{StateIn, IsFreshIn}
+use Rattle.cdb_model.specs.KnownStore.{State, start_at}
+use Rattle.cdb_model.specs.Runs.{Item, Run, RunIn, PassesIn, items_of}
+use Rattle.cdb_model.specs.AnswerTexts.{text_of, texts_of, shelf_fault, disk_fault}
+use Rattle.cdb_model.specs.Images.{Base}
+use Rattle.cdb_front.specs.Devices.{WritesPart}
+use Rattle.cdb_front.specs.Followed.{Leads, Sight}
+use Rattle.cdb_front.specs.Kept.{kept_of}
+use Rattle.cdb_front.specs.Stepping.{Counts}
+use Rattle.cdb_front.specs.declared.fed.Fed.{Fed}
+use Rattle.cdb_front.specs.declared.fed.Fed.TheVariants as fed
+
+-- what a run began with: the files of the shelf, the counts of failures of shelf and disk, what was written before, the
+-- store on the disk, where that is known, and how many steps follow a line
+pub record Entry : Type 0 where
+  pub files : FileMap
+  pub shelf : ℕ
+  pub disk : ℕ
+  pub written : Option (List ℕ)
+  pub from : Option Base
+  pub most : ℕ
+
+-- the store, or an empty one
+abbrev pub base_of : Option Base → Base
+base_of None = record { list = []; early = []; moment = 0 }
+base_of (Some base) = base
+
+-- the shelf has this content at a path, where it tells
+abbrev pub Holds : Type 0 → FileMap → Text → Content → Type 0
+Holds tells files path content = tells → content ≡ files path
+
+-- where the store is known, the answers are those of a run from its list over these items, to a state of now
+abbrev pub Runs : (Text → Content → Type 0) → Option Base → List Item → List machine.Answer → (State → Type 0) → Type 0
+Runs Has None items answers Now = Unit {0}
+Runs Has (Some base) items answers Now = Leads (Run Has (start_at base.list) items answers) Now
+
+-- whatever the disk holds, the answers are those of a run from some beginning over these items, to a state of now
+pub record Ordered (Has : Text → Content → Type 0) (items : List Item) (answers : List machine.Answer) (Now : StateIn any_store → Type 0) : Type 0 where
+  pub start : StateIn any_store
+  pub fresh : IsFreshIn any_store start
+  pub leads : Leads (RunIn any_store Has start items answers) Now
+
+-- items were gone through and their answers written
+pub record Told (tells : Type 0) (e : Entry) (items : List Item) (written : Option (List ℕ)) (shelf disk : ℕ) (Now : Sight) : Type 0 where
+  pub answers : List machine.Answer
+  pub run : Runs (Holds tells e.files) e.from items answers (Now known)
+  pub order : Ordered (Holds tells e.files) items answers (Now any)
+  pub shelf_counted : Counts shelf_fault e.shelf shelf answers
+  pub disk_counted : Counts disk_fault e.disk disk answers
+  pub appended : Appends e.written written (texts_of answers)
+
+-- the same, but for a part of the last answer
+pub record Torn (tells : Type 0) (e : Entry) (items : List Item) (written : Option (List ℕ)) (shelf disk : ℕ) (Now : Sight) : Type 0 where
+  pub whole : List machine.Answer
+  pub answer : machine.Answer
+  pub run : Runs (Holds tells e.files) e.from items (whole ++ answer ∷ []) (Now known)
+  pub order : Ordered (Holds tells e.files) items (whole ++ answer ∷ []) (Now any)
+  pub shelf_counted : Counts shelf_fault e.shelf shelf (whole ++ answer ∷ [])
+  pub disk_counted : Counts disk_fault e.disk disk (whole ++ answer ∷ [])
+  pub part : Text
+  pub unwritten : Text
+  pub joined : text_of answer ≡ part ++ unwritten
+  pub short : unwritten ≢ []
+  pub appended : Appends e.written written (texts_of whole ++ part)
+
+-- one item was gone through and its answers written, or a part of its one answer
+pub record Speaks (tells : Type 0) (files : FileMap) (item : Item) (before now : Option (List ℕ)) (shelf shelf' disk disk' : ℕ) (Old New : Sight) : Type 0 where
+  pub answers : List machine.Answer
+  pub passes : (w : Which) (s : StateIn (kind_of w)) → Old w s → Leads (PassesIn (kind_of w) (Holds tells files) s item answers) (New w)
+  pub shelf_counted : Counts shelf_fault shelf shelf' answers
+  pub disk_counted : Counts disk_fault disk disk' answers
+  pub written : Appends before now (texts_of answers)
+
+pub record Stammers (tells : Type 0) (files : FileMap) (item : Item) (before now : Option (List ℕ)) (shelf shelf' disk disk' : ℕ) (Old New : Sight) : Type 0 where
+  pub answer : machine.Answer
+  pub passes : (w : Which) (s : StateIn (kind_of w)) → Old w s → Leads (PassesIn (kind_of w) (Holds tells files) s item (answer ∷ [])) (New w)
+  pub shelf_counted : Counts shelf_fault shelf shelf' (answer ∷ [])
+  pub disk_counted : Counts disk_fault disk disk' (answer ∷ [])
+  pub written : WritesPart before now (text_of answer)
+
+abbrev pub SpeaksFed : Type 0 → FileMap → Fed → Item → Option (List ℕ) → Option (List ℕ) → ℕ → ℕ → ℕ → ℕ → Sight → Sight → Type 0
+SpeaksFed tells files fed.More item before now shelf shelf' disk disk' Old New = Speaks tells files item before now shelf shelf' disk disk' Old New
+SpeaksFed tells files fed.Failed item before now shelf shelf' disk disk' Old New = Stammers tells files item before now shelf shelf' disk disk' Old New
+SpeaksFed tells files fed.Quit item before now shelf shelf' disk disk' Old New = ⊥
+
+-- whole lines were read and answered, and the beginning of the next line is kept
+pub record Sofar (tells : Type 0) (e : Entry) (read : Text) (written : Option (List ℕ)) (shelf disk : ℕ) (Now : Sight) (kept : Option (List ℕ)) : Type 0 where
+  pub lines : List Text
+  pub rest : Text
+  pub cut : Cut read lines rest
+  pub no_quit : HaveNoQuit lines
+  pub told : Told tells e (items_of e.most lines) written shelf disk Now
+  pub kept_is : kept ≡ kept_of rest
+
+-- what was read is answered whole, its last line too, which is `quit` or isn't
+pub record Answered (tells : Type 0) (e : Entry) (P : Text → Type 0) (read : Text) (written : Option (List ℕ)) (shelf disk : ℕ) (Now : Sight) : Type 0 where
+  pub lines : List Text
+  pub rest : Text
+  pub cut : Cut read lines rest
+  pub no_quit : HaveNoQuit lines
+  pub told : Told tells e (items_of e.most (lines ++ rest ∷ [])) written shelf disk Now
+  pub last : P rest
+
+abbrev pub IsQuit : Text → Type 0
+IsQuit line = line_command line ≡ said.quit
+
+abbrev pub IsNotQuit : Text → Type 0
+IsNotQuit line = line_command line ≢ said.quit
+
+-- the last answer to what was read wasn't written whole; some items of the last line may not have come to their turn
+pub record Broken (tells : Type 0) (e : Entry) (read : Text) (written : Option (List ℕ)) (shelf disk : ℕ) (Now : Sight) : Type 0 where
+  pub lines : List Text
+  pub rest : Text
+  pub cut : Cut read lines rest
+  pub no_quit : HaveNoQuit lines
+  pub items : List Item
+  pub unmade : List Item
+  pub items_are : items_of e.most (lines ++ rest ∷ []) ≡ items ++ unmade
+  pub torn : Torn tells e items written shelf disk Now
+
+-- a line was taken
+abbrev pub TakesLine : Type 0 → Entry → Fed → Text → Option (List ℕ) → ℕ → ℕ → Sight → Type 0
+TakesLine tells e fed.More read written shelf disk Now = Answered tells e IsNotQuit read written shelf disk Now
+TakesLine tells e fed.Quit read written shelf disk Now = Answered tells e IsQuit read written shelf disk Now
+TakesLine tells e fed.Failed read written shelf disk Now = Broken tells e read written shelf disk Now
+
+-- a byte was taken
+abbrev pub TakesByte : Type 0 → Entry → Fed → Text → ℕ → Option (List ℕ) → ℕ → ℕ → Sight → Option (List ℕ) → Type 0
+TakesByte tells e fed.More read byte written shelf disk Now kept = Sofar tells e (read ++ byte ∷ []) written shelf disk Now kept
+TakesByte tells e fed.Quit read byte written shelf disk Now kept = Answered tells e IsQuit read written shelf disk Now
+TakesByte tells e fed.Failed read byte written shelf disk Now kept = Broken tells e read written shelf disk Now
+
+-- a piece was taken up to a line feed of it
+pub record UpTo (piece : Text) (X : Text → Type 0) : Type 0 where
+  pub front : Text
+  pub back : Text
+  pub joined : piece ≡ front ++ 10 ∷ back
+  pub reached : X front
+
+abbrev pub TakesPiece : Type 0 → Entry → Fed → Text → Text → Option (List ℕ) → ℕ → ℕ → Sight → Option (List ℕ) → Type 0
+TakesPiece tells e fed.More read piece written shelf disk Now kept = Sofar tells e (read ++ piece) written shelf disk Now kept
+TakesPiece tells e fed.Quit read piece written shelf disk Now kept = UpTo piece (λ front. Answered tells e IsQuit (read ++ front) written shelf disk Now)
+TakesPiece tells e fed.Failed read piece written shelf disk Now kept = UpTo piece (λ front. Broken tells e (read ++ front) written shelf disk Now)
+
+-- ---- a line and the steps after it
+
+-- a line was answered, but for a part of the last answer
+pub record TornIn (tells : Type 0) (e : Entry) (items more : List Item) (written : Option (List ℕ)) (shelf disk : ℕ) (Now : Sight) : Type 0 where
+  pub made : List Item
+  pub unmade : List Item
+  pub joined : more ≡ made ++ unmade
+  pub torn : Torn tells e (items ++ made) written shelf disk Now
+
+abbrev pub TellsFed : Type 0 → Entry → Fed → List Item → List Item → Option (List ℕ) → ℕ → ℕ → Sight → Type 0
+TellsFed tells e fed.More items more written shelf disk Now = Told tells e (items ++ more) written shelf disk Now
+TellsFed tells e fed.Quit items more written shelf disk Now = ⊥
+TellsFed tells e fed.Failed items more written shelf disk Now = TornIn tells e items more written shelf disk Now
+
+-- where the store is known, the state of its list is one of now
+abbrev pub Starts : Option Base → (State → Type 0) → Type 0
+Starts None Now = Unit {0}
+Starts (Some base) Now = Now (start_at base.list)
+
+-- of a store that wasn't opened
+abbrev pub Shut : Option Base → (w : Which) → StateIn (kind_of w) → Type 0
+Shut from known s = Starts from (λ t. s ≡ t)
+Shut from any s = Unit {0}
