@@ -1,0 +1,148 @@
+//! The store of one source of one post, byte for byte.
+
+use crate::given::{Given, Numbers, source_of};
+use crate::store::{begin, clear, contents, has, step_times};
+use cdb_chain::Chain;
+use cdb_files::{Disk, Path};
+use cdb_memfiles::MemDisk;
+use cdb_names::{record_path, source_path};
+use cdb_publish::{Progress, StepError};
+use cdb_source::Kind;
+use std::alloc::Global;
+use std::process::Abort;
+use std::test::Fail;
+
+/// The head of a tile of one element of 16 bits.
+const TILE_HEAD: [u8; 186] = [
+    0x49, 0x49, 0x2A, 0x00, 0x08, 0x00, 0x00, 0x00, 0x0D, 0x00, 0x00, 0x01, 0x03, 0x00, 0x01, 0x00,
+    0x00, 0x00, 0x01, 0x00, 0x00, 0x00, 0x01, 0x01, 0x03, 0x00, 0x01, 0x00, 0x00, 0x00, 0x01, 0x00,
+    0x00, 0x00, 0x02, 0x01, 0x03, 0x00, 0x01, 0x00, 0x00, 0x00, 0x10, 0x00, 0x00, 0x00, 0x03, 0x01,
+    0x03, 0x00, 0x01, 0x00, 0x00, 0x00, 0x01, 0x00, 0x00, 0x00, 0x06, 0x01, 0x03, 0x00, 0x01, 0x00,
+    0x00, 0x00, 0x01, 0x00, 0x00, 0x00, 0x11, 0x01, 0x04, 0x00, 0x01, 0x00, 0x00, 0x00, 0xBA, 0x00,
+    0x00, 0x00, 0x15, 0x01, 0x03, 0x00, 0x01, 0x00, 0x00, 0x00, 0x01, 0x00, 0x00, 0x00, 0x16, 0x01,
+    0x03, 0x00, 0x01, 0x00, 0x00, 0x00, 0x01, 0x00, 0x00, 0x00, 0x17, 0x01, 0x04, 0x00, 0x01, 0x00,
+    0x00, 0x00, 0x02, 0x00, 0x00, 0x00, 0x1A, 0x01, 0x05, 0x00, 0x01, 0x00, 0x00, 0x00, 0xAA, 0x00,
+    0x00, 0x00, 0x1B, 0x01, 0x05, 0x00, 0x01, 0x00, 0x00, 0x00, 0xB2, 0x00, 0x00, 0x00, 0x28, 0x01,
+    0x03, 0x00, 0x01, 0x00, 0x00, 0x00, 0x01, 0x00, 0x00, 0x00, 0x53, 0x01, 0x03, 0x00, 0x01, 0x00,
+    0x00, 0x00, 0x02, 0x00, 0x00, 0x00, 0x00, 0x00, 0x00, 0x00, 0x01, 0x00, 0x00, 0x00, 0x01, 0x00,
+    0x00, 0x00, 0x01, 0x00, 0x00, 0x00, 0x01, 0x00, 0x00, 0x00,
+];
+
+/// The source file: its first eight bytes, its head, and its post.
+const SOURCE: [u8; 54] = [
+    0x43, 0x44, 0x42, 0x53, 0x52, 0x43, 0x31, 0x0A, 0x01, 0xF6, 0x00, 0x00, 0x00, 0x00, 0x00, 0x01,
+    0x00, 0x00, 0x00, 0x01, 0x00, 0x05, 0xAF, 0x78, 0x00, 0x00, 0x00, 0x00, 0x00, 0x00, 0xDD, 0x7C,
+    0x00, 0x00, 0x00, 0x00, 0x00, 0x00, 0x1F, 0xA4, 0x00, 0x00, 0x00, 0x00, 0x00, 0x00, 0x1F, 0xA4,
+    0x00, 0x00, 0x00, 0x00, 0x01, 0xF4,
+];
+
+/// The record: its first eight bytes, the version, one source, three tiles, the head and the tiles.
+const RECORD: [u8; 112] = [
+    0x43, 0x44, 0x42, 0x52, 0x45, 0x43, 0x31, 0x0A, 0x00, 0x00, 0x00, 0x01, 0x00, 0x00, 0x00, 0x01,
+    0x00, 0x00, 0x00, 0x03, 0x01, 0xF6, 0x00, 0x00, 0x00, 0x00, 0x00, 0x01, 0x00, 0x00, 0x00, 0x01,
+    0x00, 0x05, 0xAF, 0x78, 0x00, 0x00, 0x00, 0x00, 0x00, 0x00, 0xDD, 0x7C, 0x00, 0x00, 0x00, 0x00,
+    0x00, 0x00, 0x1F, 0xA4, 0x00, 0x00, 0x00, 0x00, 0x00, 0x00, 0x1F, 0xA4, 0x00, 0x00, 0x00, 0x00,
+    0x01, 0xF6, 0x2E, 0x00, 0x00, 0x07, 0x00, 0x00, 0x00, 0x00, 0x00, 0x00, 0x00, 0x00, 0x00, 0x00,
+    0x02, 0xF6, 0x2E, 0x00, 0x00, 0x07, 0x00, 0x00, 0x00, 0x00, 0x00, 0x00, 0x00, 0x00, 0x00, 0x00,
+    0x03, 0xF6, 0x2E, 0x00, 0x00, 0x07, 0x00, 0x00, 0x00, 0x00, 0x00, 0x00, 0x00, 0x00, 0x00, 0x00,
+];
+
+/// The files of the three tiles, under the folder of a version.
+const TILES: [&str; 3] = [
+    "Tiles/N46/E007/001_Elevation/LC/U0/N46E007_D001_S001_T001_LC10_U0_R0.tif",
+    "Tiles/N46/E007/002_MinMaxElevation/LC/U0/N46E007_D002_S001_T001_LC10_U0_R0.tif",
+    "Tiles/N46/E007/002_MinMaxElevation/LC/U0/N46E007_D002_S001_T002_LC10_U0_R0.tif",
+];
+
+/// One post of whole degrees at 46 degrees north and 7 east, of the coarsest level.
+const fn one(post: i32) -> Given {
+    Given {
+        kind: Kind::Elevation,
+        level: -10,
+        corner: [(46, 1), (7, 1)],
+        steps: [(1, 1), (1, 1)],
+        numbers: Numbers::One(post),
+    }
+}
+
+/// The path with this text.
+fn path(rt: &impl Abort, text: &str) -> Path {
+    Path::from(text).expect(rt, "it is short")
+}
+
+/// Whether the version's three tiles are these files, each with this value.
+fn has_tiles(
+    alloc: Global,
+    rt: &impl Abort,
+    disk: &mut MemDisk,
+    version: &str,
+    value: [u8; 2],
+) -> Result<bool, Fail> {
+    for tile in &TILES {
+        let mut file = path(rt, version);
+        file.try_push_str("/")?;
+        file.try_push_str(tile)?;
+        let Some(bytes) = contents(alloc, disk, &file)? else {
+            return Ok(false);
+        };
+        if bytes.len() != 188 {
+            return Ok(false);
+        }
+        let (head, raster) = bytes.as_slice().split_at(186);
+        if head != &TILE_HEAD[..] || raster != &value[..] {
+            return Ok(false);
+        }
+    }
+    Ok(true)
+}
+
+#[test]
+fn two_publications_step_by_step(rt: HostRuntime) -> Result<(), Fail> {
+    let mut disk = MemDisk::new(rt.alloc(), Vec::new(rt.alloc()));
+    let mut chain = Chain::open(rt.alloc(), &mut disk, 0)?;
+    let mut sources = Vec::new(rt.alloc());
+    sources.push(source_of(rt.alloc(), &one(500))?)?;
+    let mut first = begin(rt.alloc(), &mut disk, &mut chain, sources)?;
+    assert!(rt; first.version() == 1 && first.files() == 3 && first.left() == 9);
+    assert!(rt; step_times(&mut first, &mut chain, &mut disk, 8)? == Progress::Going);
+    assert!(rt; disk.size(&path(&rt, "HEAD"))?.is_none());
+    assert!(rt; step_times(&mut first, &mut chain, &mut disk, 1)? == Progress::Published(1));
+    assert!(rt; first.left() == 0 && first.version() == 1 && chain.newest() == 1);
+    assert!(rt; has(rt.alloc(), &mut disk, &path(&rt, "HEAD"), b"1\n")?);
+    assert!(rt; has(rt.alloc(), &mut disk, &record_path(1), &RECORD)?);
+    assert!(rt; has(rt.alloc(), &mut disk, &source_path(1, 1), &SOURCE)?);
+    assert!(rt; has_tiles(rt.alloc(), &rt, &mut disk, "V00000001", [0xF4, 0x01])?);
+    let mut sources = Vec::new(rt.alloc());
+    sources.push(source_of(rt.alloc(), &one(600))?)?;
+    let mut second = begin(rt.alloc(), &mut disk, &mut chain, sources)?;
+    assert!(rt; step_times(&mut second, &mut chain, &mut disk, 4)? == Progress::Going);
+    assert!(rt; has_tiles(rt.alloc(), &rt, &mut disk, "V00000001", [0xF4, 0x01])?);
+    assert!(rt; step_times(&mut second, &mut chain, &mut disk, 5)? == Progress::Published(2));
+    assert!(rt; has(rt.alloc(), &mut disk, &path(&rt, "HEAD"), b"2\n")?);
+    assert!(rt; has_tiles(rt.alloc(), &rt, &mut disk, "V00000001", [0xF4, 0x01])?);
+    assert!(rt; has_tiles(rt.alloc(), &rt, &mut disk, "V00000002", [0x58, 0x02])?);
+    // The record and a source of each version, three tiles of each, and the head.
+    assert!(rt; clear(&mut disk, &Path::new())? == 11);
+    Ok(())
+}
+
+#[test]
+fn a_source_that_is_gone(rt: HostRuntime) -> Result<(), Fail> {
+    let mut disk = MemDisk::new(rt.alloc(), Vec::new(rt.alloc()));
+    let mut chain = Chain::open(rt.alloc(), &mut disk, 0)?;
+    let mut sources = Vec::new(rt.alloc());
+    sources.push(source_of(rt.alloc(), &one(500))?)?;
+    let mut going = begin(rt.alloc(), &mut disk, &mut chain, sources)?;
+    assert!(rt; step_times(&mut going, &mut chain, &mut disk, 1)? == Progress::Going);
+    disk.remove(&source_path(1, 1))?;
+    if going.left() == 0 {
+        return Err("no step is left".into());
+    }
+    let gone = StepError::Damaged {
+        expected: 54,
+        found: None,
+    };
+    assert!(rt; going.step(&mut chain, &mut disk) == Err(gone));
+    assert!(rt; going.left() == 8);
+    Ok(())
+}
