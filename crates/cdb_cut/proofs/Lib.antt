@@ -1,3 +1,4 @@
+pub mod Stand
 pub mod MeanLaws
 pub mod PostLaws
 pub mod Plain

@@ -1,34 +1,25 @@
 -- One tile made from frames has the values of its sources.
-use Rattle.std.proofs.Common.{◌≡◌, ℕ, zero, suc, ◌+◌, ◌-◌, ◌*◌, ◌/◌, ◌<◌, ◌≤◌, ◌⊎◌, inl, inr, ℤ, Bool, true, false, cond, List, [], ◌∷◌, ◌++◌, length, map, All, Option, Some, None, IfSome, refl, sym, ap, ap₂, ◌∙◌, subst, arith, nat_eq}
-use Rattle.std.specs.Prelude.{int_lt, Any}
+use Rattle.std.proofs.Common.{◌≡◌, ℕ, ◌+◌, ◌-◌, ◌*◌, ◌/◌, ◌<◌, ◌⊎◌, inl, inr, ℤ, Bool, true, false, cond, List, [], ◌∷◌, ◌++◌, All, Option, Some, None, refl, sym, ap, ap₂, ◌∙◌, subst, arith}
+use Rattle.std.specs.Prelude.{int_lt}
 use Rattle.std.specs.Option.{option_or}
-use Rattle.std.proofs.lemmas.Bool.{cases_Bool}
-use Rattle.std.proofs.lemmas.Bool.Decides.{nat_tests}
-use Rattle.std.proofs.lemmas.List.Elements.{All-nil, All-push, All-get_or}
-use Rattle.cdb_grid.specs.Units.{step}
-use Rattle.cdb_grid.specs.Grid.{Place, step_east, beside, centre}
-use Rattle.cdb_grid.specs.Tiles.{tile_height, tile_side, element_corner, element_place, place_in, IsInTile}
-use Rattle.cdb_grid.specs.Frames.{number_in, number_at, IsBeside, IsPartChanged, four_under}
+use Rattle.std.proofs.lemmas.List.Elements.{All-push}
+use Rattle.cdb_grid.specs.Grid.{Place, beside}
+use Rattle.cdb_grid.specs.Tiles.{tile_height, tile_side, element_corner, IsInTile}
+use Rattle.cdb_grid.specs.Frames.{number_at, IsPartChanged, four_under}
 use Rattle.cdb_grid.specs.declared.family.Family.{Family}
 use Rattle.cdb_grid.specs.declared.family.Family.TheVariants.{Elev, Low, High, Mat}
 use Rattle.cdb_grid.specs.declared.tile.Tile.{Tile}
-use Rattle.cdb_grid.proofs.GridLaws.{same_place}
-use Rattle.cdb_grid.proofs.ElementLaws.{corner-within, element-corner, place-in-tile}
 use Rattle.cdb_source.specs.declared.kind.Kind.{Kind}
 use Rattle.cdb_source.specs.declared.kind.Kind.TheVariants.{Elevation, Material}
 use Rattle.cdb_source.specs.declared.source.Source.{Source}
 use Rattle.cdb_source.specs.Posts.{none_of, coded}
-use Rattle.cdb_source.specs.Sample.{value_of, sample_at}
-use Rattle.cdb_source.specs.Values.{sampled, same_kind, own, newest_own, lesser, greater, mode_of_four, low, high, material, elevation_of, low_of, high_of, material_of}
-use Rattle.cdb_source.specs.Reached.{kind_of, source_height, family_value, tile_value, Reaches}
+use Rattle.cdb_source.specs.Values.{lesser, greater}
+use Rattle.cdb_source.specs.Reached.{kind_of, family_value, tile_value, Reaches}
 use Rattle.cdb_source.specs.Folds.{lesser_number, greater_number}
-use Rattle.cdb_source.proofs.OfferLaws.{or_none, or_assoc}
-use Rattle.cdb_source.proofs.ElevationLaws as elevations
 use Rattle.cdb_source.proofs.MaterialLaws as materials
 use Rattle.cdb_source.proofs.ReachLaws.{tile_unreached}
-use Rattle.cdb_source.proofs.SampleLaws.{in_box_of_sample}
-use Rattle.cdb_cut.specs.OneTile.{IsFrameOf, finer_height, of_four, under, joined, four_rule, IsFolded, IsWholeFolded, IsPainted, IsPaintedBy, IsFilled, nothing, Stands}
-use Rattle.cdb_cut.proofs.Plain.{IsPlain, read_back, none_read, value_plain, newest_plain, or_plain, lesser_plain, greater_plain, four_has}
+use Rattle.cdb_cut.specs.OneTile.{IsFrameOf, finer_height, of_four, under, joined, four_rule, IsFolded, Stands}
+use Rattle.cdb_cut.proofs.Plain.{IsPlain, read_back, value_plain, or_plain, lesser_plain, greater_plain, four_has}
 use Rattle.cdb_grid.proofs.ChildPlaces.{InPart, height-under, child_corner_at, part_or_beside, beside_out, inside_child}
 
 -- ---- the rules of the folds, over values

@@ -1,15 +1,15 @@
 -- One tile made from frames: from the start to the end.
-use Rattle.std.proofs.Common.{◌≡◌, ℕ, zero, suc, ◌+◌, ◌-◌, ◌*◌, ◌/◌, ◌<◌, ◌≤◌, ◌⊎◌, inl, inr, ℤ, Bool, true, false, cond, ◌&&◌, List, [], ◌∷◌, ◌++◌, length, map, get_or, All, Option, Some, None, IfSome, refl, sym, ap, ap₂, ◌∙◌, subst, arith, nat_eq}
-use Rattle.std.specs.Prelude.{int_lt, Any}
+use Rattle.std.proofs.Common.{◌≡◌, ℕ, suc, ◌+◌, ◌*◌, ◌<◌, ◌⊎◌, inl, inr, ℤ, Bool, true, false, cond, ◌&&◌, List, [], ◌∷◌, ◌++◌, length, map, All, Option, Some, None, refl, sym, ap, ap₂, ◌∙◌, subst, arith, nat_eq}
+use Rattle.std.specs.Prelude.{Any}
 use Rattle.std.specs.Option.{option_or}
 use Rattle.std.proofs.lemmas.Bool.Decides.{nat_tests}
-use Rattle.std.proofs.lemmas.List.Elements.{All-nil, All-push, All-get_or}
+use Rattle.std.proofs.lemmas.List.Elements.{All-nil, All-get_or}
 use Rattle.cdb_grid.specs.Units.{height_of, side_of}
 use Rattle.cdb_grid.specs.Grid.{Place, step_east, IsCorner, beside, centre}
 use Rattle.cdb_grid.specs.declared.level.Level.{Level}
 use Rattle.std.proofs.lemmas.List.{map-append}
 use Rattle.cdb_grid.specs.Tiles.{tile_height, tile_side, element_corner, element_place, place_in, IsInTile}
-use Rattle.cdb_grid.specs.Frames.{number_in, number_at}
+use Rattle.cdb_grid.specs.Frames.{number_at}
 use Rattle.cdb_grid.specs.declared.family.Family.{Family}
 use Rattle.cdb_grid.specs.declared.family.Family.TheVariants.{Elev, Low, High, Mat}
 use Rattle.cdb_grid.specs.declared.tile.Tile.{Tile}
@@ -29,8 +29,8 @@ use Rattle.cdb_source.proofs.MaterialLaws as materials
 use Rattle.cdb_source.proofs.ReachLaws.{tile_unreached}
 use Rattle.cdb_source.proofs.SampleLaws.{in_box_of_sample}
 use Rattle.cdb_cut.specs.Window.{HasPlace}
-use Rattle.cdb_cut.specs.OneTile.{IsFrameOf, finer_height, of_four, under, joined, IsFolded, IsWholeFolded, IsPainted, IsPaintedBy, IsFilled, nothing, elevations_of, IsElevationOf}
-use Rattle.cdb_cut.proofs.Plain.{IsPlain, read_back, value_plain, newest_plain, or_plain}
+use Rattle.cdb_cut.specs.OneTile.{IsFrameOf, finer_height, under, joined, IsFolded, IsWholeFolded, IsPainted, IsPaintedBy, IsFilled, nothing, elevations_of, IsElevationOf}
+use Rattle.cdb_cut.proofs.Plain.{read_back, value_plain, newest_plain, or_plain}
 use Rattle.cdb_cut.proofs.OneTile.{under_plain_at, four_none, joined_none}
 
 -- ---- where the folds begin

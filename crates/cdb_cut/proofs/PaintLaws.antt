@@ -1,13 +1,13 @@
 -- A painted frame has the samples of the source.
-use Rattle.std.proofs.Common.{◌≡◌, ℕ, zero, suc, ◌+◌, ◌-◌, ◌*◌, ◌/◌, ◌%◌, ◌<◌, ◌≤◌, ◌⊎◌, inl, inr, ℤ, pos, negsuc, ◌≤ℤ◌, Bool, true, false, cond, ◌&&◌, nat_lt, nat_le, List, length, take, drop, get_or, Option, Some, None, IfSome, refl, sym, ap, ap₂, ◌∙◌, subst, arith}
-use Rattle.std.specs.Prelude.{option_and_then, slice_get, unsigned_abs}
-use Rattle.std.specs.Option.{option_map, option_or}
+use Rattle.std.proofs.Common.{◌≡◌, ℕ, zero, suc, ◌+◌, ◌-◌, ◌*◌, ◌/◌, ◌%◌, ◌<◌, ◌≤◌, ◌⊎◌, inl, inr, ℤ, pos, true, false, ◌&&◌, nat_lt, nat_le, List, length, Option, Some, None, IfSome, refl, sym, ap, ap₂, ◌∙◌, subst, arith}
+use Rattle.std.specs.Prelude.{unsigned_abs}
+use Rattle.std.specs.Option.{option_or}
 use Rattle.std.specs.Ordering.{int_eq}
 use Rattle.std.proofs.lemmas.Int.{ints}
 use Rattle.std.proofs.lemmas.Bool.{cases_lt, cases_Bool}
 use Rattle.std.proofs.lemmas.Bool.Decides.{nat_tests, Decides-int_eq}
 use Rattle.std.proofs.lemmas.Option.{slice_get-get_or}
-use Rattle.std.proofs.lemmas.Nat.{div-add-mod', mod_below, div-mul-add, mod-mul-add}
+use Rattle.std.proofs.lemmas.Nat.{div-add-mod', mod_below, mod-mul-add}
 use Rattle.std.proofs.Math.Nat.{mul-le-mul_right, mul-div-mul_left}
 use Rattle.cdb_grid.specs.Grid.{Place}
 use Rattle.cdb_grid.specs.Tiles.{tile_side, element_place}
@@ -18,15 +18,14 @@ use Rattle.cdb_source.specs.declared.kind.Kind.{Kind}
 use Rattle.cdb_source.specs.declared.kind.Kind.TheVariants.{Elevation, Material}
 use Rattle.cdb_source.specs.declared.head.SourceHead.{SourceHead}
 use Rattle.cdb_source.specs.declared.source.Source.{Source}
-use Rattle.cdb_source.specs.Head.{span}
 use Rattle.cdb_source.specs.Posts.{none_of, coded}
 use Rattle.cdb_source.specs.Reached.{kind_of}
-use Rattle.cdb_source.specs.Sample.{IsBefore, is_before, IsInBox, is_in_box, corner_of, box_height, box_width, row_step, column_step, value_of, post_at, rounded, weighted_sum, mean_at, covering_at, value_in, sample_at}
+use Rattle.cdb_source.specs.Sample.{IsBefore, is_before, IsInBox, is_in_box, corner_of, box_height, box_width, row_step, column_step, value_of, post_at, value_in, sample_at}
 use Rattle.cdb_source.proofs.OfferLaws.{or_none}
 use Rattle.cdb_source.proofs.SampleLaws.{in_box_of_sample}
 use Rattle.cdb_cut.specs.Blend.{mean_of_four, value_from}
-use Rattle.cdb_cut.specs.Window.{LooksAt, HasPlace, IsLookedAt, IsWindow, rows_of}
-use Rattle.cdb_cut.specs.Parts.{Runs, IsReduced, IsPartOf}
+use Rattle.cdb_cut.specs.Window.{LooksAt, IsWindow, rows_of}
+use Rattle.cdb_cut.specs.Parts.{IsPartOf}
 use Rattle.cdb_cut.specs.Painted.{window_post, painted_rule, IsCovered}
 use Rattle.cdb_cut.specs.OneTile.{IsPainted}
 use Rattle.cdb_cut.proofs.Plain.{near_post}

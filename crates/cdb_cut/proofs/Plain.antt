@@ -1,5 +1,5 @@
 -- A value is never the number that stands for none, so that a frame spells each value and none apart.
-use Rattle.std.proofs.Common.{◌≡◌, ℕ, zero, suc, ◌+◌, ◌-◌, ◌*◌, ◌%◌, ◌/◌, ◌<◌, ◌≤◌, ℤ, pos, negsuc, ◌+ℤ◌, ◌*ℤ◌, ◌≤ℤ◌, ◌<ℤ◌, Bool, true, false, cond, ◌&&◌, ◌||◌, List, [], ◌∷◌, map, get_or, All, ◌^◌, Option, None, Some, IfSome, refl, sym, ap, subst, ◌∙◌, arith, nat_le, nat_lt, nat_eq}
+use Rattle.std.proofs.Common.{◌≡◌, ℕ, zero, suc, ◌+◌, ◌-◌, ◌*◌, ◌%◌, ◌/◌, ◌<◌, ◌≤◌, ℤ, pos, negsuc, ◌+ℤ◌, ◌*ℤ◌, ◌<ℤ◌, Bool, true, false, cond, ◌&&◌, ◌||◌, List, [], ◌∷◌, map, get_or, All, Option, None, Some, IfSome, refl, sym, ap, subst, ◌∙◌, arith, nat_le, nat_lt, nat_eq}
 use Rattle.std.specs.Prelude.{unsigned_abs, slice_get, option_and_then, int_lt, filter_map, fold}
 use Rattle.std.specs.Option.{option_map, option_or}
 use Rattle.std.specs.Ordering.{int_eq}
@@ -8,11 +8,10 @@ use Rattle.std.proofs.lemmas.Nat.{mod_below, mul-le}
 use Rattle.std.proofs.lemmas.Bool.Decides.{Decides-int_eq}
 use Rattle.std.proofs.lemmas.List.Elements.{All-get_or}
 use Rattle.std.proofs.lemmas.Option.{slice_get_within, get_or_from_slice_get}
-use Rattle.cdb_grid.specs.Units.{degree}
 use Rattle.cdb_grid.specs.Grid.{Place, beside, centre}
 use Rattle.cdb_source.specs.Posts.{IsPost, none_of, coded}
-use Rattle.cdb_source.specs.Sample.{value_of, post_at, plus, weighted_sum, rounded, row_step, column_step, corner_of, mean_at, covering_at, value_in, is_in_box, sample_at}
-use Rattle.cdb_source.specs.Offers.{over, best, newest}
+use Rattle.cdb_source.specs.Sample.{value_of, post_at, plus, weighted_sum, rounded, row_step, column_step, corner_of, mean_at, value_in, is_in_box, sample_at}
+use Rattle.cdb_source.specs.Offers.{over, best}
 use Rattle.cdb_source.specs.Values.{Sampled, sampled, same_kind, offer, own, newest_own, elevation, lesser, greater, low, high, count_of, oftener, mode, mode_of_four, material}
 use Rattle.cdb_source.specs.Reached.{kind_of, family_value}
 use Rattle.cdb_source.specs.declared.kind.Kind.{Kind}
@@ -20,7 +19,7 @@ use Rattle.cdb_source.specs.declared.kind.Kind.TheVariants.{Elevation, Material}
 use Rattle.cdb_source.specs.declared.source.Source.{Source}
 use Rattle.cdb_grid.specs.declared.family.Family.{Family}
 use Rattle.cdb_grid.specs.declared.family.Family.TheVariants.{Elev, Low, High, Mat}
-use Rattle.cdb_source.proofs.SampleLaws.{rounded-least, rounded-most}
+use Rattle.cdb_source.proofs.SampleLaws.{rounded-most}
 use Rattle.cdb_cut.proofs.MeanLaws.{near_plus, four_weights}
 
 -- a value, where there is one, isn't the number of a kind that stands for none

@@ -1,7 +1,6 @@
 -- The rows of a source that sampling at the places of a tile looks at.
-use Rattle.std.specs.Prelude.{◌≡◌, ℕ, ◌+◌, ◌-◌, ◌*◌, ◌<◌, ◌≤◌, ℤ, Bool, ◌&&◌, List, length, take, drop}
+use Rattle.std.specs.Prelude.{◌≡◌, ℕ, ◌+◌, ◌-◌, ◌*◌, ◌<◌, ◌≤◌, ℤ, Bool, ◌&&◌, List, take, drop}
 use Rattle.std.specs.List.{list_any, range_with_len}
-use Rattle.cdb_grid.specs.Grid.{Place}
 use Rattle.cdb_grid.specs.Tiles.{tile_side, element_place}
 use Rattle.cdb_grid.specs.declared.tile.Tile.{Tile}
 use Rattle.cdb_source.specs.declared.kind.Kind.{Kind}

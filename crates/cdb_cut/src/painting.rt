@@ -5,7 +5,7 @@ ghost use Rattle.cdb_grid.specs.Frames.{IsRowChanged};
 ghost use Rattle.cdb_source.specs.declared.kind.Kind.TheVariants.{Elevation, Material};
 ghost use Rattle.cdb_grid.specs.Tiles.{tile_side};
 ghost use Rattle.cdb_source.specs.declared.source.Source as sources;
-ghost use Rattle.cdb_cut.specs.Painted.{painted_rule, IsCovered};
+ghost use Rattle.cdb_cut.specs.Painted.{painted_rule, IsCovered, Stand};
 ghost use Rattle.cdb_cut.specs.Window.{IsWindow, rows_of};
 ghost use Rattle.cdb_cut.specs.OneTile.{IsPainted};
 
@@ -13,9 +13,12 @@ use crate::blend::Between;
 use crate::paint_rows::{cell_row, mean_row};
 use crate::source_rows::Rows;
 use crate::tile_part::part_of;
-use crate::walk::Axis;
+use crate::walk::{Axis, Columns};
 use cdb_grid::{RowRule, Spot, Tile, change_part, side};
 use cdb_source::{Kind, SourceHead};
+
+/// The most columns of a tile.
+const MOST: usize = 1024;
 
 /// A window of a source, and how the places of a tile stand in it.
 #[derive(Clone, Copy)]
@@ -26,6 +29,8 @@ pub(crate) struct Painted<'a> {
     pub cols: usize,
     pub lat: Axis,
     pub lon: Axis,
+    pub column_posts: &'a [usize],
+    pub column_parts: &'a [u64],
     pub narrow: bool,
     pub exponent: Option<u32>,
     pub ghost fits: { IsTrue narrow → lat.step * lon.step ≤ 2 ^ 46 },
@@ -45,15 +50,21 @@ impl Painted<'_> {
     }
 
     fn elevations(&self, row: usize, part: &mut [i16])
-        requires { IsCovered Elevation self.now.posts.now self.now.first self.now.cols self.now.lat.step
-            self.now.lon.step
-            self.now.lat.start self.now.lat.stride self.now.lon.start self.now.lon.stride row (length part.old) }
-        ensures { IsRowChanged (painted_rule Elevation self.now.posts.now self.now.first self.now.cols
-            self.now.lat.step self.now.lon.step
-            self.now.lat.start self.now.lat.stride self.now.lon.start self.now.lon.stride row)
-            (length part.old) part.old part.new }
+        requires stand { let lon = self.now.lon in Stand lon.start lon.stride lon.step (length part.old)
+            self.now.column_posts.now self.now.column_parts.now }
+        requires covered { let lon = self.now.lon in IsCovered Elevation self.now.posts.now self.now.first
+            self.now.cols self.now.lat.step lon.step self.now.lat.start self.now.lat.stride lon.start lon.stride row
+            (length part.old) }
+        ensures { let lon = self.now.lon in IsRowChanged (painted_rule Elevation self.now.posts.now
+            self.now.first self.now.cols self.now.lat.step lon.step self.now.lat.start self.now.lat.stride lon.start
+            lon.stride row) (length part.old) part.old part.new }
     {
         let up = self.lat.along(row as u64);
+        let columns = Columns {
+            axis: self.lon,
+            posts: self.column_posts,
+            parts: self.column_parts,
+        };
         let low = self.source_row(up.post);
         let between = Between {
             dlat: self.lat.step,
@@ -63,30 +74,37 @@ impl Painted<'_> {
             exponent: self.exponent,
         };
         if up.part == 0 {
-            mean_row(&between, &self.lon, low, low, part);
+            mean_row(&between, &columns, low, low, part);
         } else {
             let high = self.source_row(up.post + 1);
-            mean_row(&between, &self.lon, low, high, part);
+            mean_row(&between, &columns, low, high, part);
         }
     }
 
     fn materials(&self, row: usize, part: &mut [i16])
-        requires { IsCovered Material self.now.posts.now self.now.first self.now.cols self.now.lat.step
-            self.now.lon.step
-            self.now.lat.start self.now.lat.stride self.now.lon.start self.now.lon.stride row (length part.old) }
-        ensures { IsRowChanged (painted_rule Material self.now.posts.now self.now.first self.now.cols
-            self.now.lat.step self.now.lon.step
-            self.now.lat.start self.now.lat.stride self.now.lon.start self.now.lon.stride row)
-            (length part.old) part.old part.new }
+        requires stand { let lon = self.now.lon in Stand lon.start lon.stride lon.step (length part.old)
+            self.now.column_posts.now self.now.column_parts.now }
+        requires covered { let lon = self.now.lon in IsCovered Material self.now.posts.now self.now.first
+            self.now.cols self.now.lat.step lon.step self.now.lat.start self.now.lat.stride lon.start lon.stride row
+            (length part.old) }
+        ensures { let lon = self.now.lon in IsRowChanged (painted_rule Material self.now.posts.now
+            self.now.first self.now.cols self.now.lat.step lon.step self.now.lat.start self.now.lat.stride lon.start
+            lon.stride row) (length part.old) part.old part.new }
     {
         let up = self.lat.along(row as u64);
-        cell_row(&self.lon, self.source_row(up.post), part);
+        let columns = Columns {
+            axis: self.lon,
+            posts: self.column_posts,
+            parts: self.column_parts,
+        };
+        cell_row(&columns, self.source_row(up.post), part);
     }
 }
 
 impl RowRule for Painted<'_> {
-    ghost has_row = { λ p row cols. IsCovered p.kind p.posts.now p.first p.cols p.lat.step p.lon.step p.lat.start
-        p.lat.stride p.lon.start p.lon.stride row cols };
+    ghost has_row = { λ p row cols. let lon = p.lon in Stand lon.start lon.stride lon.step cols
+        p.column_posts.now p.column_parts.now × IsCovered p.kind p.posts.now p.first p.cols p.lat.step lon.step
+        p.lat.start p.lat.stride lon.start lon.stride row cols };
 
     ghost rule = { λ p. painted_rule p.kind p.posts.now p.first p.cols p.lat.step p.lon.step p.lat.start
         p.lat.stride p.lon.start p.lon.stride };
@@ -148,6 +166,10 @@ pub fn paint(head: &SourceHead, rows: Rows, posts: &[i16], tile: &Tile, frame: &
         IsPainted s tile.now frame.old frame.new }
 {
     let part = part_of(head, rows, tile);
+    let side = side(tile.level) as usize;
+    let width = (part.cols.end - part.cols.first) as usize;
+    let (mut column_posts, mut column_parts) = ([0; MOST], [0; MOST]);
+    part.lon.stand(width, &mut column_posts, &mut column_parts);
     let narrow = is_narrow(part.lat.step, part.lon.step);
     let painted = Painted {
         kind: head.kind,
@@ -156,6 +178,8 @@ pub fn paint(head: &SourceHead, rows: Rows, posts: &[i16], tile: &Tile, frame: &
         cols: head.cols as usize,
         lat: part.lat,
         lon: part.lon,
+        column_posts: &column_posts,
+        column_parts: &column_parts,
         narrow,
         exponent: exponent_of_steps(part.lat.step, part.lon.step, narrow),
     };
@@ -163,12 +187,6 @@ pub fn paint(head: &SourceHead, rows: Rows, posts: &[i16], tile: &Tile, frame: &
         row: part.rows.first as u32,
         col: part.cols.first as u32,
     };
-    change_part(
-        &painted,
-        spot,
-        (part.rows.end - part.rows.first) as usize,
-        (part.cols.end - part.cols.first) as usize,
-        frame,
-        side(tile.level) as usize,
-    );
+    let height = (part.rows.end - part.rows.first) as usize;
+    change_part(&painted, spot, height, width, frame, side);
 }

@@ -1,6 +1,6 @@
-//! A walk over the places of one axis, which keeps the post at or before each place and the distance to
-//! it, without a division a place.
-ghost use Rattle.std.specs.Prelude.{◌≡◌, ℕ, ◌+◌, ◌-◌, ◌*◌, ◌/◌, ◌%◌, ◌^◌, ◌≤◌, ◌<◌};
+//! Places along one axis, each with the post at or before it and the distance to that post.
+ghost use Rattle.std.specs.Prelude.{◌≡◌, ◌+◌, ◌*◌, ◌/◌, ◌%◌, ◌^◌, ◌≤◌, ◌<◌, length};
+ghost use Rattle.cdb_cut.specs.Painted.{Stand};
 
 /// Places along one axis: how far the first one stands from a source's first post, the step from one
 /// place to the next, and the step from one post to the next.
@@ -37,47 +37,35 @@ impl Axis {
         }
     }
 
-    /// How far the walk goes on from one place to the next.
-    pub(crate) fn on(&self) -> Along
-        ensures whole { result.post * self.now.step + result.part ≡ self.now.stride }
-        ensures below { result.part < self.now.step }
-        ensures most { result.post ≤ self.now.stride }
+    /// Writes where the first places stand, so many of them.
+    pub(crate) fn stand(&self, count: usize, posts: &mut [usize], parts: &mut [u64])
+        requires count { count ≤ 1024 }
+        requires posts { count ≤ length posts.old }
+        requires parts { count ≤ length parts.old }
+        ensures { Stand self.now.start self.now.stride self.now.step count posts.new parts.new }
     {
-        Along {
-            post: self.stride / self.step,
-            part: self.stride % self.step,
+        for k in 0..count {
+            let at = self.along(k as u64);
+            posts[k] = at.post as usize;
+            parts[k] = at.part;
         }
     }
 }
 
-/// The next place of a walk.
-pub(crate) fn next(at: Along, on: Along, step: u64) -> Along
-    requires step { step ≤ 417470821171200 }
-    requires at { at.part < step }
-    requires on { on.part < step }
-    requires room { at.post < 2 ^ 62 }
-    requires on_room { on.post < 2 ^ 62 }
-    ensures whole { result.post * step + result.part ≡ at.post * step + at.part + (on.post * step + on.part) }
-    ensures below { result.part < step }
-{
-    let gap = step - on.part;
-    if at.part < gap {
-        return Along {
-            post: at.post + on.post,
-            part: at.part + on.part,
-        };
-    }
-    Along {
-        post: at.post + on.post + 1,
-        part: at.part - gap,
-    }
+/// Where the columns of a part of a tile stand in a source: the post at or before each, and the distance
+/// to it.
+#[derive(Clone, Copy)]
+pub(crate) struct Columns<'a> {
+    pub axis: Axis,
+    pub posts: &'a [usize],
+    pub parts: &'a [u64],
 }
 
 /// The post after a place, or the one at which it stands.
-pub(crate) fn post_beyond(at: Along) -> u64
-    requires { at.post < 2 ^ 62 }
-    ensures on_post { at.part ≡ 0 → result ≡ at.post }
-    ensures beyond { 1 ≤ at.part → result ≡ at.post + 1 }
+pub(crate) fn post_beyond(post: usize, part: u64) -> usize
+    requires { post < 2 ^ 62 }
+    ensures on_post { part ≡ 0 → result ≡ post }
+    ensures beyond { 1 ≤ part → result ≡ post + 1 }
 {
-    if at.part == 0 { at.post } else { at.post + 1 }
+    if part == 0 { post } else { post + 1 }
 }
