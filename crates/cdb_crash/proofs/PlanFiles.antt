@@ -8,7 +8,7 @@ use Rattle.cdb_source.specs.Reached.{IsTouched}
 use Rattle.cdb_source.proofs.LoadLaws.{LoadTiles, load_tiles}
 use Rattle.cdb_source.specs.Texts.{source_text}
 use Rattle.cdb_source.specs.declared.source.Source.{Source}
-use Rattle.cdb_model.specs.Machine.{heads_of, sources_of}
+use Rattle.cdb_model.specs.Publications.{heads_of, sources_of}
 use Rattle.cdb_model.specs.Maps.{Text, FileMap, IsThere}
 use Rattle.cdb_model.specs.Names.{record_path, source_path, path, name, fields_of_path, spell}
 use Rattle.cdb_model.specs.declared.name_error.NameError.{NameError}

@@ -7,9 +7,8 @@ use Rattle.std.proofs.lemmas.List.Sums.{fold_push}
 use Rattle.cdb_grid.specs.declared.tile.Tile.{Tile}
 use Rattle.cdb_source.specs.Reached.{IsTouched}
 use Rattle.cdb_source.specs.declared.source.Source.{Source}
-use Rattle.cdb_model.specs.Machine.{heads_of, sources_of}
 use Rattle.cdb_model.specs.Maps.{Text, FileMap, IsThere, put, has_slash, folder_above}
-use Rattle.cdb_model.specs.Publications.{each_once, source_paths, file_paths, folders_above}
+use Rattle.cdb_model.specs.Publications.{heads_of, sources_of, each_once, source_paths, file_paths, folders_above}
 use Rattle.cdb_model.specs.Names.{version_folder, record_path, source_path, path, sources_folder, metadata_folder, spell, fields_of_path, four}
 use Rattle.cdb_model.specs.Records.{head_file_text}
 use Rattle.cdb_model.specs.Stands.{ArePublications, IsVersionFile, Stands}

@@ -5,7 +5,7 @@ use Rattle.std.proofs.lemmas.List.{length-map}
 use Rattle.cdb_grid.specs.declared.tile.Tile.{Tile}
 use Rattle.cdb_source.specs.Texts.{source_text}
 use Rattle.cdb_source.specs.declared.source.Source.{Source}
-use Rattle.cdb_model.specs.Machine.{sources_of}
+use Rattle.cdb_model.specs.Publications.{sources_of}
 use Rattle.cdb_model.specs.Maps.{Text}
 use Rattle.cdb_model.specs.Names.{source_path, record_path, path}
 use Rattle.cdb_model.specs.TileFile.{tile_bytes}

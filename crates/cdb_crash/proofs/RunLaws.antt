@@ -6,7 +6,7 @@ use Rattle.std.specs.Str.{bytes_eq}
 use Rattle.cdb_grid.specs.declared.tile.Tile.{Tile}
 use Rattle.cdb_source.specs.Reached.{IsTouched}
 use Rattle.cdb_source.specs.declared.source.Source.{Source}
-use Rattle.cdb_model.specs.Machine.{heads_of}
+use Rattle.cdb_model.specs.Publications.{heads_of}
 use Rattle.cdb_model.specs.Maps.{Text, Content, folder_above}
 use Rattle.cdb_model.specs.Records.{head_file_text}
 use Rattle.cdb_model.specs.Stands.{ArePublications, IsPublication, IsEntryCount, Stands}

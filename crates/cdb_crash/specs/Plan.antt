@@ -3,7 +3,7 @@ use Rattle.std.specs.Prelude.{◌≡◌, ℕ, ◌+◌, Bool, false, List, [], �
 use Rattle.cdb_grid.specs.declared.tile.Tile.{Tile}
 use Rattle.cdb_source.specs.Texts.{source_text}
 use Rattle.cdb_source.specs.declared.source.Source.{Source}
-use Rattle.cdb_model.specs.Machine.{heads_of, sources_of}
+use Rattle.cdb_model.specs.Publications.{heads_of, sources_of}
 use Rattle.cdb_model.specs.Maps.{Text, FileMap, put, folder_above}
 use Rattle.cdb_model.specs.Names.{record_path, source_path, path}
 pub use Rattle.cdb_model.specs.Publications.{each_once}

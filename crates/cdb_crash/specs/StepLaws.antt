@@ -4,7 +4,7 @@ use Rattle.cdb_grid.specs.declared.tile.Tile.{Tile}
 use Rattle.cdb_source.specs.Reached.{Reached, Reaches, IsTouched}
 use Rattle.cdb_source.specs.Texts.{source_text}
 use Rattle.cdb_source.specs.declared.source.Source.{Source}
-use Rattle.cdb_model.specs.Machine.{heads_of, sources_of}
+use Rattle.cdb_model.specs.Publications.{heads_of, sources_of}
 use Rattle.cdb_model.specs.Maps.{Text, FileMap}
 use Rattle.cdb_model.specs.Names.{source_path, path, new_head_path}
 use Rattle.cdb_model.specs.Stands.{ArePublications, Stands}

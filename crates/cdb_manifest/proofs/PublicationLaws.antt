@@ -3,7 +3,7 @@ use Rattle.std.proofs.Common.{◌≡◌, ◌≤◌, List, length, arith}
 use Rattle.std.proofs.lemmas.List.{length-map}
 use Rattle.cdb_source.specs.declared.source.Source.{Source}
 use Rattle.cdb_source.proofs.LoadLaws.{within_load}
-use Rattle.cdb_model.specs.Machine.{heads_of}
+use Rattle.cdb_model.specs.Publications.{heads_of}
 use Rattle.cdb_manifest.specs.Records.{PublicationsHaveRecords}
 use Rattle.cdb_manifest.proofs.DecodingLaws.{published}
 
