@@ -60,18 +60,61 @@ fn store(alloc: Global) -> Option<MemDisk> {
     Some(disk)
 }
 
-/// Asks for tiles in turn, so many times, and gives how many bytes came.
-fn ask(sessions: &mut Sessions, chain: &Chain, disk: &mut MemDisk, columns: u8, times: u32) -> Option<u64> {
-    let mut sum = 0u64;
+/// A store with its versions, and a session at version 1.
+#[derive(Drop)]
+struct Served {
+    disk: MemDisk,
+    chain: Chain,
+    sessions: Sessions,
+}
+
+/// All of it, made anew.
+fn opened(alloc: Global) -> Option<Served> {
+    let mut disk = store(alloc)?;
+    let chain = Chain::open(alloc, &mut disk, 1).ok()?;
+    let mut sessions = Sessions::new(alloc).ok()?;
+    sessions.open(1).ok()?;
+    Some(Served {
+        disk,
+        chain,
+        sessions,
+    })
+}
+
+/// Asks for a tile, and gives how many bytes came.
+fn ask(served: &mut Served, column: u8) -> Option<u32> {
+    let tile = tile(column)?;
+    match served.sessions.tile(1, &tile, &served.chain, &mut served.disk) {
+        Ok(Reply::Bytes(count)) => Some(count),
+        _ => None,
+    }
+}
+
+/// Asks for tiles in turn, so many times, and gives how many of the answers had the bytes of a file.
+fn ask_all(served: &mut Served, columns: u8, times: u32) -> u32 {
+    let mut whole = 0u32;
     let mut column = 0u8;
     for _ in 0..times {
-        let Ok(Reply::Bytes(count)) = sessions.tile(1, &tile(column)?, chain, disk) else {
-            return None;
-        };
-        sum = sum.wrapping_add(u64::from(count));
+        if ask(served, column) == Some(FILE_BYTES as u32) {
+            whole = whole.wrapping_add(1);
+        }
         column = if column >= columns { 0 } else { column.wrapping_add(1) };
     }
-    Some(sum)
+    whole
+}
+
+/// Copies bytes to as many.
+fn copy(from: &[u8], to: &mut [u8]) {
+    if from.len() == to.len() {
+        to.copy_from_slice(from);
+    }
+}
+
+/// Copies them so many times.
+fn copy_all(from: &[u8], to: &mut [u8], times: u32) {
+    for _ in 0..times {
+        copy(from, to);
+    }
 }
 
 /// So many in a second, where they took this time.
@@ -80,33 +123,31 @@ fn rate<C: Clock>(rt: &C, start: &Instant, times: u32) -> io::Result<u128> {
     Ok(u128::from(times) * 1_000_000_000 / if nanos == 0 { 1 } else { nanos })
 }
 
+/// How many tiles a second are given, 0 where one wasn't.
+fn rate_of<C: Clock>(rt: &C, served: &mut Served, columns: u8, times: u32) -> io::Result<u128> {
+    let start = Instant::now(rt)?;
+    let whole = ask_all(served, columns, times);
+    let given = rate(rt, &start, times)?;
+    Ok(if whole == times { given } else { 0 })
+}
+
+/// How many files a second are copied, 0 where the bytes didn't come.
+fn rate_of_copies<C: Clock>(rt: &C, alloc: Global, times: u32) -> io::Result<u128> {
+    let from = vec![in alloc; 1u8; FILE_BYTES]?;
+    let mut to = vec![in alloc; 0u8; FILE_BYTES]?;
+    let start = Instant::now(rt)?;
+    copy_all(from.as_slice(), to.as_mut_slice(), times);
+    let given = rate(rt, &start, times)?;
+    Ok(if to.as_slice().last() == Some(&1) { given } else { 0 })
+}
+
 fn main(rt: HostRuntime) -> io::Result<()> {
-    let Some(mut disk) = store(rt.alloc()) else {
+    let Some(mut served) = opened(rt.alloc()) else {
         return println!(rt; "no store");
     };
-    let Ok(chain) = Chain::open(rt.alloc(), &mut disk, 1) else {
-        return println!(rt; "no chain");
-    };
-    let Ok(mut sessions) = Sessions::new(rt.alloc()) else {
-        return println!(rt; "no memory");
-    };
-    if sessions.open(1).is_err() {
-        return println!(rt; "no session");
-    }
-    let start = Instant::now(&rt)?;
-    let misses = ask(&mut sessions, &chain, &mut disk, 15, 2_000);
-    let read = rate(&rt, &start, 2_000)?;
-    let start = Instant::now(&rt)?;
-    let hits = ask(&mut sessions, &chain, &mut disk, 0, 1_000_000);
-    let kept = rate(&rt, &start, 1_000_000)?;
-    let from = vec![in rt.alloc(); 1u8; FILE_BYTES]?;
-    let mut to = vec![in rt.alloc(); 0u8; FILE_BYTES]?;
-    let start = Instant::now(&rt)?;
-    for _ in 0..2_000u32 {
-        to.as_mut_slice().copy_from_slice(from.as_slice());
-    }
-    let copied = rate(&rt, &start, 2_000)?;
-    println!(rt; "bytes: {misses:?} read, {hits:?} kept, {:?} copied", to.as_slice().first())?;
+    let read = rate_of(&rt, &mut served, 15, 2_000)?;
+    let kept = rate_of(&rt, &mut served, 0, 1_000_000)?;
+    let copied = rate_of_copies(&rt, rt.alloc(), 2_000)?;
     println!(rt; "tiles a second: {kept} kept, {read} read, {copied} copied")
 }
 PROGRAM

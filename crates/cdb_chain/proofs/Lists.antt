@@ -1,5 +1,6 @@
 -- Elements of lists by their places.
-use Rattle.std.proofs.Common.{◌≡◌, ℕ, zero, suc, ◌+◌, ◌-◌, ◌<◌, ◌≤◌, List, [], ◌∷◌, ◌++◌, length, take, drop, get_or, slice_get, Option, Some, None, Contains, refl, sym, ap, ◌∙◌, subst, arith}
+use Rattle.std.proofs.Common.{◌≡◌, ℕ, zero, suc, ◌+◌, ◌<◌, List, [], ◌∷◌, ◌++◌, length, take}
+use Rattle.std.proofs.Common.{slice_get, Option, Some, None, Contains, refl, ap, ◌∙◌, subst, arith}
 use Rattle.std.proofs.lemmas.Option.{slice_get-get_or}
 
 pub none_some : {A B : Type 0} (y : A) → None ≡ Some y → B
@@ -31,13 +32,15 @@ pub at_place : {A : Type 0} (xs : List A) (x : A) (c : Contains xs x) → slice_
 at_place xs x c = slice_get-get_or xs c.0 x c.1 ∙ ap Some c.2
 
 -- the first elements
-pub in_take : {A : Type 0} (n : ℕ) (xs : List A) (k : ℕ) (x : A) → slice_get (take n xs) k ≡ Some x → (k < n) × (slice_get xs k ≡ Some x)
+pub in_take : {A : Type 0} (n : ℕ) (xs : List A) (k : ℕ) (x : A) → slice_get (take n xs) k ≡ Some x → (k < n)
+    × (slice_get xs k ≡ Some x)
 in_take zero xs k x e = none_some x e
 in_take (suc n) [] k x e = none_some x e
 in_take (suc n) (y ∷ xs) zero x e = (omega arith, e)
 in_take (suc n) (y ∷ xs) (suc k) x e = let i = in_take n xs k x e in (omega (arith, i.0), i.1)
 
-pub to_take : {A : Type 0} (n : ℕ) (xs : List A) (k : ℕ) (x : A) → k < n → slice_get xs k ≡ Some x → slice_get (take n xs) k ≡ Some x
+pub to_take : {A : Type 0} (n : ℕ) (xs : List A) (k : ℕ) (x : A) → k < n → slice_get xs k ≡ Some x
+    → slice_get (take n xs) k ≡ Some x
 to_take zero xs k x l e = absurd (omega (arith, l))
 to_take (suc n) [] k x l e = e
 to_take (suc n) (y ∷ xs) zero x l e = e
@@ -58,7 +61,8 @@ split {A = A} (x ∷ xs) zero y e = record {
   later = xs;
   is = ap (λ z. z ∷ xs) (some_is x y e);
   size = refl;
-  rest = λ i z at. let G : ℕ → Type 0 = λ j. slice_get (x ∷ xs) j ≡ Some z in let n : suc i ≡ 0 + 1 + i = omega arith in subst G n at;
+  rest = λ i z at. let G : ℕ → Type 0 = λ j. slice_get (x ∷ xs) j ≡ Some z in let n : suc i ≡ 0 + 1 + i = omega arith in
+      subst G n at;
 }
 split {A = A} (x ∷ xs) (suc k) y e = up (split xs k y e)
   where
@@ -68,7 +72,8 @@ split {A = A} (x ∷ xs) (suc k) y e = up (split xs k y e)
       later = s.later;
       is = ap (λ t. x ∷ t) s.is;
       size = ap suc s.size;
-      rest = λ i z at. let G : ℕ → Type 0 = λ j. slice_get (x ∷ xs) j ≡ Some z in let n : suc (k + 1 + i) ≡ suc k + 1 + i = omega arith in subst G n (s.rest i z at);
+      rest = λ i z at. let G : ℕ → Type 0 = λ j. slice_get (x ∷ xs) j ≡ Some z in
+          let n : suc (k + 1 + i) ≡ suc k + 1 + i = omega arith in subst G n (s.rest i z at);
     }
 
 -- one element more

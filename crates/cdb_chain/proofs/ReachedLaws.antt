@@ -1,15 +1,17 @@
 -- What a look-up finds, by the sources of the publications.
-use Rattle.std.proofs.Common.{◌≡◌, ℕ, zero, suc, ◌+◌, ◌<◌, ◌≤◌, ◌⊎◌, inl, inr, List, [], ◌∷◌, ◌++◌, length, map, take, drop, get_or, slice_get, Option, Some, None, append_assoc, refl, sym, ap, ◌∙◌, subst, arith}
-use Rattle.std.specs.Prelude.{All, Contains}
+use Rattle.std.proofs.Common.{◌≡◌, ℕ, zero, suc, ◌+◌, ◌<◌, ◌≤◌, ◌⊎◌, inl, inr, List, [], ◌∷◌, ◌++◌, length, take}
+use Rattle.std.proofs.Common.{drop, get_or, slice_get, Option, Some, None, append_assoc, refl, sym, ap, ◌∙◌, subst}
+use Rattle.std.proofs.Common.{arith}
+use Rattle.std.specs.Prelude.{All}
 use Rattle.std.proofs.lemmas.List.{take-append-drop}
 use Rattle.std.proofs.lemmas.Grind.{flat_map-append}
 use Rattle.std.proofs.lemmas.Option.{get_or_from_slice_get}
 use Rattle.cdb_grid.specs.declared.tile.Tile.{Tile}
-use Rattle.cdb_source.specs.Reached.{Reached, Reaches, IsTouched}
+use Rattle.cdb_source.specs.Reached.{Reached, Reaches}
 use Rattle.cdb_source.specs.declared.head.SourceHead.{SourceHead}
 use Rattle.cdb_source.specs.declared.source.Source.{Source}
 use Rattle.cdb_model.specs.ByteLaws.{BytesByReaching}
-use Rattle.cdb_model.specs.Machine.{heads_of, sources_of, sources_up_to}
+use Rattle.cdb_model.specs.Publications.{heads_of, sources_of, sources_up_to}
 use Rattle.cdb_model.specs.Maps.{FileMap}
 use Rattle.cdb_model.specs.Names.{path}
 use Rattle.cdb_model.specs.Stands.{HasVersion, IsVersionFile}
@@ -30,24 +32,31 @@ pub record ReachedBy (P : List (List Source)) (t : Tile) : Type 0 where
 
 module _ (t : Tile) where
   first_reached : (xs ys : List Source) → Reached (heads_of xs) t → Reached (heads_of (xs ++ ys)) t
-  first_reached xs ys r = record { number = r.number; head = r.head; there = at xs r.number r.there; reaches = r.reaches }
+  first_reached xs ys r =
+      record { number = r.number; head = r.head; there = at xs r.number r.there; reaches = r.reaches }
     where
-      at : (xs : List Source) (n : ℕ) → slice_get (heads_of xs) n ≡ Some r.head → slice_get (heads_of (xs ++ ys)) n ≡ Some r.head
+      at : (xs : List Source) (n : ℕ) → slice_get (heads_of xs) n ≡ Some r.head → slice_get (heads_of (xs ++ ys)) n
+          ≡ Some r.head
       at [] n e = none_some r.head e
       at (x ∷ xs) zero e = e
       at (x ∷ xs) (suc n) e = at xs n e
 
   later_reached : (xs ys : List Source) → Reached (heads_of ys) t → Reached (heads_of (xs ++ ys)) t
   later_reached [] ys r = r
-  later_reached (x ∷ xs) ys r = let s = later_reached xs ys r in record { number = suc s.number; head = s.head; there = s.there; reaches = s.reaches }
+  later_reached (x ∷ xs) ys r = let s = later_reached xs ys r in
+      record { number = suc s.number; head = s.head; there = s.there; reaches = s.reaches }
 
-  one_later : (x : Source) (xs ys : List Source) → Reached (heads_of xs) t ⊎ Reached (heads_of ys) t → Reached (heads_of (x ∷ xs)) t ⊎ Reached (heads_of ys) t
-  one_later x xs ys (inl s) = inl (record { number = suc s.number; head = s.head; there = s.there; reaches = s.reaches })
+  one_later : (x : Source) (xs ys : List Source) → Reached (heads_of xs) t ⊎ Reached (heads_of ys) t
+      → Reached (heads_of (x ∷ xs)) t ⊎ Reached (heads_of ys) t
+  one_later x xs ys (inl s) =
+      inl (record { number = suc s.number; head = s.head; there = s.there; reaches = s.reaches })
   one_later x xs ys (inr s) = inr s
 
-  either_reached : (xs ys : List Source) (n : ℕ) (head : SourceHead) → slice_get (heads_of (xs ++ ys)) n ≡ Some head → Reaches head t → Reached (heads_of xs) t ⊎ Reached (heads_of ys) t
+  either_reached : (xs ys : List Source) (n : ℕ) (head : SourceHead) → slice_get (heads_of (xs ++ ys)) n ≡ Some head
+      → Reaches head t → Reached (heads_of xs) t ⊎ Reached (heads_of ys) t
   either_reached [] ys n head e reaches = inr (record { number = n; head = head; there = e; reaches = reaches })
-  either_reached (x ∷ xs) ys zero head e reaches = inl (record { number = zero; head = head; there = e; reaches = reaches })
+  either_reached (x ∷ xs) ys zero head e reaches =
+      inl (record { number = zero; head = head; there = e; reaches = reaches })
   either_reached (x ∷ xs) ys (suc n) head e reaches = one_later x xs ys (either_reached xs ys n head e reaches)
 
   -- one of the publications has the source
@@ -55,7 +64,8 @@ module _ (t : Tile) where
   from_all [] r = none_some r.head r.there
   from_all (x ∷ P) r = elim (either_reached x (sources_of P) r.number r.head r.there r.reaches) [
     | inl here ↦ record { number = zero; sources = x; at = refl; reached = here }
-    | inr more ↦ let b = from_all P more in record { number = suc b.number; sources = b.sources; at = b.at; reached = b.reached }
+    | inr more ↦ let b = from_all P more in
+        record { number = suc b.number; sources = b.sources; at = b.at; reached = b.reached }
   ]
 
   to_all : (P : List (List Source)) (b : ReachedBy P t) → Reached (heads_of (sources_of P)) t
@@ -63,20 +73,26 @@ module _ (t : Tile) where
     where
       at : (P : List (List Source)) (n : ℕ) → slice_get P n ≡ Some b.sources → Reached (heads_of (sources_of P)) t
       at [] n e = none_some b.sources e
-      at (x ∷ P) zero e = first_reached x (sources_of P) (subst (λ z. Reached (heads_of z) t) (some_is b.sources x (sym e)) b.reached)
+      at (x ∷ P) zero e =
+          first_reached x (sources_of P) (subst (λ z. Reached (heads_of z) t) (some_is b.sources x (sym e)) b.reached)
       at (x ∷ P) (suc n) e = later_reached x (sources_of P) (at P n e)
 
   -- no source of a list reaches the tile
   none_reach : (ss : List Source) → (Reached (heads_of ss) t → ⊥) → All (λ (s : Source). Reaches s.head t → ⊥) ss
-  none_reach ss never k d l reaches = never (record { number = k; head = (get_or ss k d).head; there = head_at ss k d l; reaches = reaches })
+  none_reach ss never k d l reaches =
+      never (record { number = k; head = (get_or ss k d).head; there = head_at ss k d l; reaches = reaches })
     where
-      head_at : (ss : List Source) (k : ℕ) (d : Source) → k < length ss → slice_get (heads_of ss) k ≡ Some (get_or ss k d).head
+      head_at : (ss : List Source) (k : ℕ) (d : Source) → k < length ss → slice_get (heads_of ss) k
+          ≡ Some (get_or ss k d).head
       head_at [] k d l = absurd (omega (arith, l))
       head_at (s ∷ ss) zero d l = refl
       head_at (s ∷ ss) (suc k) d l = head_at ss k d (omega (arith, l))
 
-  none_later : (later : List (List Source)) → ((i : ℕ) (z : List Source) → slice_get later i ≡ Some z → Reached (heads_of z) t → ⊥) → All (λ (s : Source). Reaches s.head t → ⊥) (sources_of later)
-  none_later later never = none_reach (sources_of later) (λ r. let b = from_all later r in never b.number b.sources b.at b.reached)
+  none_later : (later : List (List Source))
+      → ((i : ℕ) (z : List Source) → slice_get later i ≡ Some z → Reached (heads_of z) t → ⊥)
+      → All (λ (s : Source). Reaches s.head t → ⊥) (sources_of later)
+  none_later later never =
+      none_reach (sources_of later) (λ r. let b = from_all later r in never b.number b.sources b.at b.reached)
 
 -- ---- look-ups
 
@@ -111,43 +127,59 @@ module _ (records : List Record) (P : List (List Source)) (are : AreRecords reco
         },
       )
 
-  meets : (spare : ℕ) (found : Option ℕ) → IsFound (record { records = records; spare = spare }) version t found → MeetsSources P version t found
+  meets : (spare : ℕ) (found : Option ℕ) → IsFound (record { records = records; spare = spare }) version t found
+      → MeetsSources P version t found
   unfolding IsFound
-  meets spare None none = λ r. let b = from_all t (take version P) r in let v = version_of b in none (b.number + 1) v.0 v.1
+  meets spare None none = λ r. let b = from_all t (take version P) r in let v = version_of b in
+      none (b.number + 1) v.0 v.1
   meets spare (Some found) newest = to_all t (take version P) (publication_of found newest.up_to newest.has).0
 
-  file : BytesByReaching → (files : FileMap) (found : ℕ) → HasVersions files P → IsNewest records version t found → files (path found t) ≡ Some (tile_bytes (sources_up_to version P) t)
+  file : BytesByReaching → (files : FileMap) (found : ℕ) → HasVersions files P → IsNewest records version t found
+      → files (path found t) ≡ Some (tile_bytes (sources_up_to version P) t)
   file bytes files found there newest = of (publication_of found newest.up_to newest.has)
     where
-      of : (b : ReachedBy (take version P) t) × (found ≡ b.number + 1) → files (path found t) ≡ Some (tile_bytes (sources_up_to version P) t)
+      of : (b : ReachedBy (take version P) t) × (found ≡ b.number + 1) → files (path found t)
+          ≡ Some (tile_bytes (sources_up_to version P) t)
       of (b, number) = by (split (take version P) b.number b.sources b.at)
         where
-          by : Split (take version P) b.number b.sources → files (path found t) ≡ Some (tile_bytes (sources_up_to version P) t)
+          by : Split (take version P) b.number b.sources → files (path found t)
+              ≡ Some (tile_bytes (sources_up_to version P) t)
           by s =
               let rest = drop version P in
               let whole : P ≡ s.earlier ++ b.sources ∷ (s.later ++ rest) =
-              sym (take-append-drop version P) ∙ ap (λ l. l ++ rest) s.is ∙ append_assoc s.earlier (b.sources ∷ s.later) rest in
+              sym (take-append-drop version P) ∙ ap (λ l. l ++ rest) s.is
+              ∙ append_assoc s.earlier (b.sources ∷ s.later) rest in
               let v : HasVersion files s.earlier b.sources = there s.earlier b.sources (s.later ++ rest) whole in
-              let first : files (path (length s.earlier + 1) t) ≡ Some (tile_bytes (sources_of (s.earlier ++ b.sources ∷ [])) t) = v.there _ _ (IsVersionFile.of_tile t b.reached) in
+              let first : files (path (length s.earlier + 1) t)
+              ≡ Some (tile_bytes (sources_of (s.earlier ++ b.sources ∷ [])) t) =
+              v.there _ _ (IsVersionFile.of_tile t b.reached) in
               let here : length s.earlier + 1 ≡ found = omega (arith, s.size, number) in
-              let parts : (s.earlier ++ b.sources ∷ []) ++ s.later ≡ take version P = append_assoc s.earlier (b.sources ∷ []) s.later ∙ sym s.is in
+              let parts : (s.earlier ++ b.sources ∷ []) ++ s.later ≡ take version P =
+              append_assoc s.earlier (b.sources ∷ []) s.later ∙ sym s.is in
               let all : sources_of (s.earlier ++ b.sources ∷ []) ++ sources_of s.later ≡ sources_up_to version P =
-              sym (flat_map-append (λ (z : List Source). z) (s.earlier ++ b.sources ∷ []) s.later) ∙ ap sources_of parts in
+              sym (flat_map-append (λ (z : List Source). z) (s.earlier ++ b.sources ∷ []) s.later)
+              ∙ ap sources_of parts in
               subst (λ n. files (path n t) ≡ Some (tile_bytes (sources_up_to version P) t)) here
-              (first ∙ ap (λ bs. Some bs) (sym (bytes.untouched t (sources_of (s.earlier ++ b.sources ∷ [])) (sources_of s.later) (none_later t s.later (never s)))
+              (first ∙ ap (λ bs. Some bs)
+              (sym (bytes.untouched t (sources_of (s.earlier ++ b.sources ∷ [])) (sources_of s.later)
+              (none_later t s.later (never s)))
               ∙ ap (λ ss. tile_bytes ss t) all))
             where
-              never : (s : Split (take version P) b.number b.sources) (i : ℕ) (z : List Source) → slice_get s.later i ≡ Some z → Reached (heads_of z) t → ⊥
+              never : (s : Split (take version P) b.number b.sources) (i : ℕ) (z : List Source) → slice_get s.later i
+                  ≡ Some z → Reached (heads_of z) t → ⊥
               never s i z at reached =
-                  let v = version_of (record { number = b.number + 1 + i; sources = z; at = s.rest i z at; reached = reached }) in
+                  let v = version_of
+                  (record { number = b.number + 1 + i; sources = z; at = s.rest i z at; reached = reached }) in
                   absurd (omega (arith, newest.greatest (b.number + 1 + i + 1) v.0 v.1, number))
 
 pub meets_sources : LookUpsMeetSources
 meets_sources chain P version tile found are is = meets chain.records P are version tile chain.spare found is
 
-newest_of : (chain : Versions) (version : ℕ) (t : Tile) (found : ℕ) → IsFound chain version t (Some found) → IsNewest chain.records version t found
+newest_of : (chain : Versions) (version : ℕ) (t : Tile) (found : ℕ) → IsFound chain version t (Some found)
+    → IsNewest chain.records version t found
 unfolding IsFound
 newest_of chain version t found is = is
 
 pub names_files : LookUpsNameFiles
-names_files bytes files chain P version tile found there are is = file chain.records P are version tile bytes files found there (newest_of chain version tile found is)
+names_files bytes files chain P version tile found there are is =
+    file chain.records P are version tile bytes files found there (newest_of chain version tile found is)

@@ -1,10 +1,10 @@
 -- The records of a list of publications, and what opening and look-ups give for the list.
-use Rattle.std.specs.Prelude.{◌≡◌, ℕ, ◌+◌, List, [], ◌∷◌, ◌++◌, length, slice_get, Option, Some, None, Result, Ok, Err}
+use Rattle.std.specs.Prelude.{◌≡◌, ℕ, ◌+◌, List, ◌∷◌, ◌++◌, length, slice_get, Option, Some, None, Result, Ok, Err}
 use Rattle.cdb_grid.specs.declared.tile.Tile.{Tile}
 use Rattle.cdb_source.specs.Reached.{Reached, IsTouched}
 use Rattle.cdb_source.specs.declared.source.Source.{Source}
 use Rattle.cdb_model.specs.ByteLaws.{BytesByReaching}
-use Rattle.cdb_model.specs.Machine.{heads_of, sources_up_to}
+use Rattle.cdb_model.specs.Publications.{heads_of, sources_up_to}
 use Rattle.cdb_model.specs.Maps.{FileMap}
 use Rattle.cdb_model.specs.Names.{path}
 use Rattle.cdb_model.specs.Stands.{HasVersion}

@@ -4,7 +4,7 @@ ghost use Rattle.std.specs.List.{sum_by};
 ghost use Rattle.std.specs.List.Sorted.{IsSorted};
 ghost use Rattle.cdb_source.specs.Reached.{IsTouched};
 ghost use Rattle.cdb_source.specs.declared.source.Source as given;
-ghost use Rattle.cdb_model.specs.Machine.{heads_of};
+ghost use Rattle.cdb_model.specs.Publications.{heads_of};
 ghost use Rattle.cdb_manifest.specs.declared.record_.Record as manifest;
 ghost use Rattle.cdb_chain.specs.Publications.{AreRecords};
 ghost use Rattle.cdb_chain.specs.Versions.{place_cmp, places_of, IsPlaced, IsFound};
@@ -12,7 +12,7 @@ ghost use Rattle.cdb_chain.specs.Versions.{place_cmp, places_of, IsPlaced, IsFou
 use crate::place::Place;
 use cdb_grid::Tile;
 use cdb_manifest::Record;
-use std::alloc::{AllocError, Global};
+use std::alloc::AllocError;
 use std::marker::Model;
 
 /// The records of the versions from 1 on, and an index of their tiles. Contracts see the records, and

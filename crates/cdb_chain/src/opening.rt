@@ -1,4 +1,4 @@
-ghost use Rattle.std.specs.Prelude.{◌≡◌, ◌≤◌, ◌+◌, ◌++◌, ◌∷◌, [], List, Err, length, OnOk, IfOk};
+ghost use Rattle.std.specs.Prelude.{◌≡◌, ◌≤◌, ◌+◌, ◌++◌, ◌∷◌, [], List, Err, length, OnOk};
 ghost use Rattle.cdb_model.specs.Causes.{Rose};
 ghost use Rattle.cdb_model.specs.Names.{record_path};
 ghost use Rattle.cdb_files.specs.Moments.{Rests};

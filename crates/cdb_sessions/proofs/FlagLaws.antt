@@ -1,7 +1,9 @@
 -- The frames of a pool, as they are taken one after another.
-use Rattle.std.proofs.Common.{◌≡◌, ℕ, zero, suc, ◌+◌, ◌-◌, ◌<◌, ◌≤◌, Bool, true, false, List, [], ◌∷◌, ◌++◌, length, replicate, slice_get, slice_set, Option, Some, None, refl, sym, ap, ◌∙◌, subst, arith, inl, inr, add-one}
+use Rattle.std.proofs.Common.{◌≡◌, ℕ, zero, suc, ◌+◌, ◌-◌, ◌<◌, Bool, true, false, List, [], ◌∷◌, ◌++◌}
+use Rattle.std.proofs.Common.{replicate, slice_get, slice_set, Some, refl, sym, ap, ◌∙◌, subst, arith}
+use Rattle.std.proofs.Common.{inl, inr, add-one}
 use Rattle.std.proofs.lemmas.Bool.{cases_lt}
-use Rattle.cdb_pool.specs.Frames.{Frames, IsFree, IsFirstFree, AllOut, with_out}
+use Rattle.cdb_pool.specs.Frames.{Frames, IsFirstFree, AllOut, with_out}
 use Rattle.cdb_pool.specs.declared.frame.Frame.{Frame}
 use Rattle.cdb_sessions.specs.Cache.{flags, with_flags, frame_of, numbered}
 
@@ -27,7 +29,8 @@ free_flag n lt = ap (λ l. slice_get l n) (split_flags n lt) ∙ middle n (repli
 pub never_out : (p pool : Frames ℕ) (n : ℕ) → n < 8 → p ≡ with_flags pool n → AllOut p → ⊥
 never_out p pool n lt e all = subst (λ (q : Frames ℕ). AllOut q) e all n (free_flag n lt)
 
-first_is : (n k : ℕ) → n < 8 → slice_get (flags n) k ≡ Some false → ((j : ℕ) → j < k → slice_get (flags n) j ≡ Some false → ⊥) → k ≡ n
+first_is : (n k : ℕ) → n < 8 → slice_get (flags n) k ≡ Some false
+    → ((j : ℕ) → j < k → slice_get (flags n) j ≡ Some false → ⊥) → k ≡ n
 first_is n k lt free none = elim (cases_lt k n) [
   | inl below ↦ let out : slice_get (flags n) k ≡ Some true = front n k (replicate (8 - n) false) below in absurd cc
   | inr above ↦ elim (cases_lt n k) [
@@ -51,9 +54,11 @@ taken p pool n k lt e first =
     ∙ ap (λ m. replicate m true ++ replicate (8 - (n + 1)) false) (sym (add-one n)) in
     record {
       number = is;
-      after = ap (λ (q : Frames ℕ). with_out q k true) e ∙ ap (λ j. with_out (with_flags pool n) j true) is ∙ ap (λ (out : List Bool). let q : Frames ℕ = record pool { out = out } in q) set;
+      after = ap (λ (q : Frames ℕ). with_out q k true) e ∙ ap (λ j. with_out (with_flags pool n) j true) is
+          ∙ ap (λ (out : List Bool). let q : Frames ℕ = record pool { out = out } in q) set;
     }
 
-pub more_numbered : (frames : List Frame) (frame : Frame) (n k : ℕ) → frames ≡ numbered n → frame.number ≡ k → k ≡ n → frames ++ frame ∷ [] ≡ numbered (n + 1)
+pub more_numbered : (frames : List Frame) (frame : Frame) (n k : ℕ) → frames ≡ numbered n → frame.number ≡ k → k ≡ n
+    → frames ++ frame ∷ [] ≡ numbered (n + 1)
 more_numbered frames frame n k e f is =
     ap (λ l. l ++ frame ∷ []) e ∙ ap (λ j. numbered n ++ frame_of j ∷ []) (f ∙ is) ∙ ap numbered (sym (add-one n))

@@ -1,5 +1,7 @@
 -- The slots, as they are moved.
-use Rattle.std.proofs.Common.{◌≡◌, ℕ, zero, suc, ◌+◌, ◌-◌, ◌<◌, ◌≤◌, Bool, true, false, ◌&&◌, List, [], ◌∷◌, ◌++◌, length, take, Option, Some, None, refl, sym, ap, ◌∙◌, subst, arith, nat_eq, IsSome, option_map}
+use Rattle.std.proofs.Common.{◌≡◌, ℕ, zero, suc, ◌<◌, ◌≤◌, Bool, true, false, List, [], ◌∷◌, ◌++◌}
+use Rattle.std.proofs.Common.{length, take, Option, Some, None, refl, sym, ap, ◌∙◌, subst, arith, nat_eq, IsSome}
+use Rattle.std.proofs.Common.{option_map}
 use Rattle.std.specs.List.{find, AllByRecursion, IsDistinct}
 use Rattle.std.specs.Map.{keys_of, lookup, lookup_entry, remove_entry}
 use Rattle.std.specs.Option.{option_map_or}
@@ -13,7 +15,7 @@ use Rattle.cdb_grid.specs.Order.{tile_cmp}
 use Rattle.cdb_sessions.specs.declared.slot.Pair.{Pair}
 use Rattle.cdb_sessions.specs.declared.slot.Slot.{Slot}
 use Rattle.cdb_sessions.specs.Slots.{Entry, fresh, fresh_slot, filled_slot, is_pair, holds, IsMoved, IsRenewed}
-use Rattle.cdb_sessions.proofs.Cuts.{FoundAt, found_at, none_found, Sole, sole}
+use Rattle.cdb_sessions.proofs.Cuts.{found_at, none_found, Sole, sole}
 use Rattle.cdb_grid.proofs.TileOrder.{both, same_by_order}
 
 -- ---- seven slots, one after another
@@ -30,7 +32,8 @@ length-fresh (suc n) = let on = length-fresh n in omega arith
 
 pub put_fresh : (n : ℕ) → n < 7 → put_entries nat_eq (lru_cache (fresh n) 7) n (fresh_slot n) ≡ fresh (suc n)
 put_fresh n lt =
-    ap (λ o. option_map_or (λ (e : Entry). (e.0, fresh_slot n) ∷ remove_entry (nat_eq n) (fresh n)) o ((n, fresh_slot n) ∷ take 6 (fresh n))) (fresh_none n n (omega arith))
+    ap (λ o. option_map_or (λ (e : Entry). (e.0, fresh_slot n) ∷ remove_entry (nat_eq n) (fresh n)) o
+    ((n, fresh_slot n) ∷ take 6 (fresh n))) (fresh_none n n (omega arith))
     ∙ ap (λ es. (n, fresh_slot n) ∷ es) (take_all 6 (fresh n) (omega (arith, length-fresh n)))
 
 -- ---- the slot that has a file
@@ -46,14 +49,16 @@ pair_is pair (Some kept) e =
 pub slot_is : (pair : Pair) (slot : Slot) → holds pair slot ≡ true → slot ≡ filled_slot slot.frame pair
 slot_is pair slot e = let same = pair_is pair slot.pair e in λ i. record { frame = slot.frame; pair = same i }
 
-pub moved : (pair : Pair) (es : List Entry) (e : Entry) → IsDistinct nat_eq (keys_of es) → find (λ (f : Entry). holds pair f.1) es ≡ Some e
+pub moved : (pair : Pair) (es : List Entry) (e : Entry) → IsDistinct nat_eq (keys_of es)
+    → find (λ (f : Entry). holds pair f.1) es ≡ Some e
     → IsMoved pair e.1.frame es (promoted (nat_eq e.0) es)
 moved pair es e d found =
     let at = found_at (λ (f : Entry). holds pair f.1) es e found in
     let slot = slot_is pair e.1 at.passes in
     let one = sole at.before e.0 e.1 at.after (subst (λ l. IsDistinct nat_eq (keys_of l)) at.cut d) in
     let entry : (e.0, e.1) ≡ (e.0, filled_slot e.1.frame pair) = ap (λ s. (e.0, s)) slot in
-    let front : promoted (nat_eq e.0) (at.before ++ e ∷ at.after) ≡ e ∷ (at.before ++ at.after) = rw (one.entry, one.removed) refl in
+    let front : promoted (nat_eq e.0) (at.before ++ e ∷ at.after) ≡ e ∷ (at.before ++ at.after) =
+    rw (one.entry, one.removed) refl in
     record {
       before = at.before;
       number = e.0;
@@ -75,7 +80,8 @@ pub last_of : (es : List Entry) → 0 < length es → IsDistinct nat_eq (keys_of
 last_of es some d =
     let end = cut_end es some in
     let one = sole end.0 end.1.0 end.1.1 [] (subst (λ l. IsDistinct nat_eq (keys_of l)) end.2 d) in
-    let all : Sole es end.1.0 end.1.1 (end.0 ++ []) = subst (λ (l : List Entry). Sole l end.1.0 end.1.1 (end.0 ++ [])) (sym end.2) one in
+    let all : Sole es end.1.0 end.1.1 (end.0 ++ []) =
+    subst (λ (l : List Entry). Sole l end.1.0 end.1.1 (end.0 ++ [])) (sym end.2) one in
     record {
       before = end.0;
       last = end.1;
@@ -87,10 +93,13 @@ last_of es some d =
 -- the number of the last slot is there, and the slot gets another content
 pub record Renews (old : LruCache ℕ Slot) (n : ℕ) : Type 0 where
   pub there : IsSome (lookup (nat_eq n) old.entries)
-  pub renewed : (frame : ℕ) (pair : Pair) (new : LruCache ℕ Slot) (given : Slot) → Some given ≡ lookup (nat_eq n) old.entries
-      → new ≡ lru_cache (put_entries nat_eq old n (filled_slot frame pair)) old.cap → IsRenewed frame pair old new given.frame
+  pub renewed : (frame : ℕ) (pair : Pair) (new : LruCache ℕ Slot) (given : Slot)
+      → Some given ≡ lookup (nat_eq n) old.entries
+      → new ≡ lru_cache (put_entries nat_eq old n (filled_slot frame pair)) old.cap
+      → IsRenewed frame pair old new given.frame
 
-pub renews : (old : LruCache ℕ Slot) (n : ℕ) (s : Slot) → 0 < length old.entries → IsDistinct nat_eq (keys_of old.entries) → last_entry old.entries ≡ Some (n, s) → Renews old n
+pub renews : (old : LruCache ℕ Slot) (n : ℕ) (s : Slot) → 0 < length old.entries
+    → IsDistinct nat_eq (keys_of old.entries) → last_entry old.entries ≡ Some (n, s) → Renews old n
 renews old n s some d e =
     let l = last_of old.entries some d in
     let same : Some l.last ≡ Some (n, s) = sym l.entry ∙ e in
@@ -102,8 +111,10 @@ renews old n s some d e =
       renewed = λ frame pair new given g put.
           let content : Some given ≡ Some l.last.1 = g ∙ one.value in
           let content_same : given ≡ l.last.1 = cc in
-          let entries : put_entries nat_eq old n (filled_slot frame pair) ≡ (n, filled_slot frame pair) ∷ l.before = rw (one.entry, one.removed) refl in
-          let numbered : (n, filled_slot frame pair) ≡ (l.last.0, filled_slot frame pair) = ap (λ k. (k, filled_slot frame pair)) (sym key) in
+          let entries : put_entries nat_eq old n (filled_slot frame pair) ≡ (n, filled_slot frame pair) ∷ l.before =
+          rw (one.entry, one.removed) refl in
+          let numbered : (n, filled_slot frame pair) ≡ (l.last.0, filled_slot frame pair) =
+          ap (λ k. (k, filled_slot frame pair)) (sym key) in
           record {
             before = l.before;
             last = l.last;
@@ -116,8 +127,10 @@ renews old n s some d e =
 abbrev pub Found : Option (ℕ × ℕ) → Option (ℕ × ℕ) → Type 0
 Found a b = a ≡ b
 
-with_found : (pair : Pair) (es : List Entry) (n frame : ℕ) → IsDistinct nat_eq (keys_of es) → (o : Option Entry) → find (λ (e : Entry). holds pair e.1) es ≡ o
-    → Found (Some (n, frame)) (option_map (λ (e : Entry). (e.0, e.1.frame)) o) → IsMoved pair frame es (promoted (nat_eq n) es)
+with_found : (pair : Pair) (es : List Entry) (n frame : ℕ) → IsDistinct nat_eq (keys_of es) → (o : Option Entry)
+    → find (λ (e : Entry). holds pair e.1) es ≡ o
+    → Found (Some (n, frame)) (option_map (λ (e : Entry). (e.0, e.1.frame)) o)
+    → IsMoved pair frame es (promoted (nat_eq n) es)
 with_found pair es n frame d None found e = absurd cc
 with_found pair es n frame d (Some f) found e =
     let both_same : ◌≡◌ {A = ℕ × ℕ} (n, frame) (f.0, f.1.frame) = cc in
@@ -127,14 +140,18 @@ with_found pair es n frame d (Some f) found e =
     let step = subst (λ k. IsMoved pair f.1.frame es (promoted (nat_eq k) es)) number is in
     subst (λ k. IsMoved pair k es (promoted (nat_eq n) es)) frame_same step
 
-none_with : (p : Entry → Bool) (es : List Entry) (o : Option Entry) → find p es ≡ o → Found None (option_map (λ (e : Entry). (e.0, e.1.frame)) o) → AllByRecursion (λ e. p e ≡ false) es
+none_with : (p : Entry → Bool) (es : List Entry) (o : Option Entry) → find p es ≡ o
+    → Found None (option_map (λ (e : Entry). (e.0, e.1.frame)) o) → AllByRecursion (λ e. p e ≡ false) es
 none_with p es None found e = none_found p es found
 none_with p es (Some f) found e = absurd cc
 
-pub none_holds : (pair : Pair) (es : List Entry) → Found None (option_map (λ (e : Entry). (e.0, e.1.frame)) (find (λ (e : Entry). holds pair e.1) es)) → AllByRecursion (λ e. holds pair e.1 ≡ false) es
+pub none_holds : (pair : Pair) (es : List Entry)
+    → Found None (option_map (λ (e : Entry). (e.0, e.1.frame)) (find (λ (e : Entry). holds pair e.1) es))
+    → AllByRecursion (λ e. holds pair e.1 ≡ false) es
 none_holds pair es e = none_with (λ (f : Entry). holds pair f.1) es (find (λ (f : Entry). holds pair f.1) es) refl e
 
 -- what a look-up among the slots told
 pub found_moved : (pair : Pair) (es : List Entry) (n frame : ℕ) → IsDistinct nat_eq (keys_of es)
-    → Found (Some (n, frame)) (option_map (λ (e : Entry). (e.0, e.1.frame)) (find (λ (e : Entry). holds pair e.1) es)) → IsMoved pair frame es (promoted (nat_eq n) es)
+    → Found (Some (n, frame)) (option_map (λ (e : Entry). (e.0, e.1.frame)) (find (λ (e : Entry). holds pair e.1) es))
+    → IsMoved pair frame es (promoted (nat_eq n) es)
 found_moved pair es n frame d e = with_found pair es n frame d (find (λ (f : Entry). holds pair f.1) es) refl e

@@ -1,5 +1,5 @@
 -- The files that are kept in memory.
-use Rattle.std.specs.Prelude.{◌≡◌, ℕ, zero, suc, ◌+◌, ◌-◌, ◌*◌, ◌/◌, ◌≤◌, ◌<◌, Bool, true, false, nat_eq, List, []}
+use Rattle.std.specs.Prelude.{◌≡◌, ℕ, zero, suc, ◌+◌, ◌-◌, ◌*◌, ◌/◌, ◌<◌, Bool, true, false, nat_eq, List, []}
 use Rattle.std.specs.Prelude.{◌∷◌, ◌++◌, map, take, length, replicate, Option, Some, None, Result, Ok, Err, ◌≢◌}
 use Rattle.std.specs.List.{flat_map, AllByRecursion, IsDistinct}
 use Rattle.lru.specs.LruCache.{LruCache}

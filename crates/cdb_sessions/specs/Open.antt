@@ -1,8 +1,8 @@
 -- The open sessions, and what becomes of them.
-use Rattle.std.specs.Prelude.{◌≡◌, ◌≢◌, ℕ, ◌+◌, ◌≤◌, ◌<◌, List, [], ◌∷◌, ◌++◌, map, length, Option, Some, None}
+use Rattle.std.specs.Prelude.{◌≡◌, ℕ, ◌+◌, ◌≤◌, ◌<◌, List, [], ◌∷◌, ◌++◌, map, length, None}
 use Rattle.std.specs.Prelude.{Result, Ok, Err, IsSome}
 use Rattle.std.specs.List.{AllByRecursion}
-use Rattle.cdb_model.specs.Machine.{session_of, without}
+use Rattle.cdb_model.specs.Sessions.{session_of, without}
 use Rattle.cdb_model.specs.declared.session.Session.{Session}
 use Rattle.cdb_sessions.specs.declared.errors.SessionError.{SessionError}
 use Rattle.cdb_sessions.specs.declared.errors.SessionError.TheVariants.{Memory, Many}

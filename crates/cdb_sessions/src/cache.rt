@@ -8,7 +8,7 @@ ghost use Rattle.cdb_sessions.specs.Cache.{Kept, file_length, IsUsed, IsFileRead
 
 use crate::errors::TileError;
 use crate::file::file_length;
-use crate::slot::{Pair, Slot};
+use crate::slot::Pair;
 use crate::slots::{Slots, new_slots, renew_last, use_slot};
 use cdb_files::{Disk, Failed, Path, ReadSize, read_whole};
 use cdb_names::write_path;

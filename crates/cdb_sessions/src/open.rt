@@ -1,6 +1,6 @@
 //! The open sessions.
 ghost use Rattle.std.specs.Prelude.{◌≡◌, [], option_map};
-ghost use Rattle.cdb_model.specs.Machine.{session_of};
+ghost use Rattle.cdb_model.specs.Sessions.{session_of};
 ghost use Rattle.cdb_model.specs.declared.session.Session.{Session};
 ghost use Rattle.cdb_sessions.specs.Open.{IsOpened, IsClosed};
 

@@ -1,5 +1,5 @@
 //! The slots of the cache in the order of their last use.
-ghost use Rattle.std.specs.Prelude.{◌≡◌, ◌<◌, ℕ, false, option_map, length, IfOk, MatchOption};
+ghost use Rattle.std.specs.Prelude.{◌≡◌, ◌<◌, false, option_map, length, IfOk, MatchOption};
 ghost use Rattle.std.specs.List.{find, AllByRecursion};
 ghost use Rattle.lru.specs.LruCache.{lru_cache};
 ghost use Rattle.cdb_sessions.specs.Slots.{Entry, fresh, holds, IsMoved, IsRenewed};
