@@ -1,5 +1,6 @@
 -- What the file that names the newest version tells of a list.
-use Rattle.std.proofs.Common.{◌≡◌, ℕ, ◌+◌, ◌≤◌, ◌<◌, List, [], ◌∷◌, length, length-append, Option, None, Some, Result, Ok, Err, IfErr, inl, inr, refl, sym, ap, subst, arith}
+use Rattle.std.proofs.Common.{◌≡◌, ℕ, ◌+◌, ◌≤◌, ◌<◌, List, [], ◌∷◌, length, length-append, Option, None, Some, Result}
+use Rattle.std.proofs.Common.{Ok, Err, IfErr, inl, inr, refl, sym, ap, subst, arith}
 use Rattle.std.specs.Fmt.{decimal}
 use Rattle.std.proofs.lemmas.Fmt.{length-decimal-le}
 use Rattle.cdb_source.specs.declared.source.Source.{Source}
@@ -15,7 +16,8 @@ use Rattle.cdb_recover.specs.declared.recover_error.RecoverError.TheVariants.{Fa
 
 -- The text of a head has at most five bytes.
 pub short_head : (n : ℕ) → n ≤ 4096 → length (head_file_text n) ≤ 5
-short_head n most = let few = length-decimal-le 4 n (omega arith) (omega arith) (omega arith) in omega (arith, few, length-append (decimal n) (10 ∷ []))
+short_head n most = let few = length-decimal-le 4 n (omega arith) (omega arith) (omega arith) in
+    omega (arith, few, length-append (decimal n) (10 ∷ []))
 
 pub long_head : (bytes : List ℕ) → 5 < length bytes → NamesNone (Some bytes)
 long_head bytes long n least most e = omega (arith, long, ap length e, short_head n most)
@@ -34,11 +36,14 @@ long_file (Some bytes) n size long = long_head bytes (omega (arith, long, ap val
 
 newest_of : (list : List (List Source)) (n : ℕ) → length list ≤ 4096 → IsNewest (head_content list) n → n ≡ length list
 newest_of [] n few named = named
-newest_of (x ∷ list) n few (least, most, e) = sym (head_text_tells (length (x ∷ list)) n (omega (arith, few)) (omega (arith, most)) e)
+newest_of (x ∷ list) n few (least, most, e) =
+    sym (head_text_tells (length (x ∷ list)) n (omega (arith, few)) (omega (arith, most)) e)
 
 -- Over a store the newest version that is named is that of its list.
-pub newest_is : (m : FileMap) (list : List (List Source)) (n : ℕ) → Stands m list → IsNewest (m head_path) n → n ≡ length list
-newest_is m list n stands named = let N : Content → Type 0 = λ c. IsNewest c n in newest_of list n stands.publications.few (subst N stands.head named)
+pub newest_is : (m : FileMap) (list : List (List Source)) (n : ℕ) → Stands m list → IsNewest (m head_path) n
+    → n ≡ length list
+newest_is m list n stands named = let N : Content → Type 0 = λ c. IsNewest c n in
+    newest_of list n stands.publications.few (subst N stands.head named)
 
 named_some : (list : List (List Source)) → length list ≤ 4096 → NamesNone (head_content list) → ⊥
 named_some [] few none = none
@@ -53,8 +58,10 @@ not_full m list version place stands full =
     full.many (subst H (sym (newest_is m list full.newest stands full.named)) stands.leftovers)
 
 -- Over a store recovery fails only where a call of the disk does.
-pub store_faults : (m : FileMap) (list : List (List Source)) (result : Result ℕ RecoverError) → Stands m list → IsAnswer m result → IfErr result (λ error. error ≡ Fault)
+pub store_faults : (m : FileMap) (list : List (List Source)) (result : Result ℕ RecoverError) → Stands m list
+    → IsAnswer m result → IfErr result (λ error. error ≡ Fault)
 store_faults m list (Ok newest) stands answer = tt
 store_faults m list (Err Fault) stands answer = refl
 store_faults m list (Err (NotAStore version place)) stands (inl none) = absurd (names_one m list stands (none.0))
-store_faults m list (Err (NotAStore version place)) stands (inr full) = absurd (not_full m list version place stands full)
+store_faults m list (Err (NotAStore version place)) stands (inr full) =
+    absurd (not_full m list version place stands full)

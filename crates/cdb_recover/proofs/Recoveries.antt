@@ -1,5 +1,6 @@
 -- Recovery of a disk that is whole, and of one that a fault left.
-use Rattle.std.proofs.Common.{◌≡◌, ◌≢◌, ℕ, ◌+◌, inl, inr, List, [], ◌∷◌, ◌++◌, None, Some, Result, Ok, Err, OnOk, refl, sym, ap, ◌∙◌, subst, arith}
+use Rattle.std.proofs.Common.{◌≡◌, ◌≢◌, ℕ, ◌+◌, inl, inr, List, [], ◌∷◌, ◌++◌, None, Some, Result, Ok, Err, OnOk, refl}
+use Rattle.std.proofs.Common.{sym, ap, ◌∙◌, subst, arith}
 use Rattle.cdb_source.specs.declared.source.Source.{Source}
 use Rattle.cdb_model.specs.Maps.{Text, Content, FileMap, IsThere}
 use Rattle.cdb_model.specs.Names.{version_folder, head_path, new_head_path}
@@ -22,7 +23,8 @@ use Rattle.cdb_recover.specs.declared.recover_error.RecoverError.TheVariants.{Fa
 
 -- ---- over maps
 -- The same number of files under a version, where they are the same.
-pub at_most-moved : (version : ℕ) (old new : FileMap) → ((q : Text) → IsOfVersion version q → new q ≡ old q) → HasAtMost 65536 version new → HasAtMost 65536 version old
+pub at_most-moved : (version : ℕ) (old new : FileMap) → ((q : Text) → IsOfVersion version q → new q ≡ old q)
+    → HasAtMost 65536 version new → HasAtMost 65536 version old
 at_most-moved version old new same most = record {
   paths = most.paths;
   few = most.few;
@@ -33,7 +35,8 @@ at_most-moved version old new same most = record {
     moved q under there = let T : Content → Type 0 = IsThere in subst T (sym (same q under)) there
 
 -- Where the new head alone differs, the files under the next version are as many.
-pub cleared-moved : (newest : ℕ) (old new : FileMap) (result : Result ℕ RecoverError) → ((q : Text) → q ≢ new_head_path → new q ≡ old q) → IsCleared newest new result → IsCleared newest old result
+pub cleared-moved : (newest : ℕ) (old new : FileMap) (result : Result ℕ RecoverError)
+    → ((q : Text) → q ≢ new_head_path → new q ≡ old q) → IsCleared newest new result → IsCleared newest old result
 cleared-moved newest old new result same = of result
   where
     at : (q : Text) → IsOfVersion (newest + 1) q → new q ≡ old q
@@ -41,17 +44,22 @@ cleared-moved newest old new result same = of result
 
     of : (result : Result ℕ RecoverError) → IsCleared newest new result → IsCleared newest old result
     of (Ok version) (is, few) = (is, at_most-moved (newest + 1) old new at few)
-    of (Err (NotAStore version place)) (many, version_is, place_is) = ((λ few. many (at_most-moved (newest + 1) new old (λ q under. sym (at q under)) few)), version_is, place_is)
+    of (Err (NotAStore version place)) (many, version_is, place_is) =
+        ((λ few. many (at_most-moved (newest + 1) new old (λ q under. sym (at q under)) few)), version_is, place_is)
     of (Err Fault) h = tt
 
-pub kept-after : (newest : ℕ) (old middle new : FileMap) → ((q : Text) → q ≢ new_head_path → middle q ≡ old q) → IsSameBeside (version_folder (newest + 1)) middle new → KeepsVersions newest old new
+pub kept-after : (newest : ℕ) (old middle new : FileMap) → ((q : Text) → q ≢ new_head_path → middle q ≡ old q)
+    → IsSameBeside (version_folder (newest + 1)) middle new → KeepsVersions newest old new
 kept-after newest old middle new same beside q ne out = beside q out ∙ same q ne
 
 -- The new head stays as it is where files under a version go.
-pub new_head-beside : (newest : ℕ) (old new : FileMap) → IsSameBeside (version_folder (newest + 1)) old new → new new_head_path ≡ old new_head_path
-new_head-beside newest old new beside = beside new_head_path (λ under. not_new_head (newest + 1) new_head_path under refl)
+pub new_head-beside : (newest : ℕ) (old new : FileMap) → IsSameBeside (version_folder (newest + 1)) old new
+    → new new_head_path ≡ old new_head_path
+new_head-beside newest old new beside =
+    beside new_head_path (λ under. not_new_head (newest + 1) new_head_path under refl)
 
-pub answered : (m : FileMap) (newest : ℕ) (result : Result ℕ RecoverError) → IsNewest (m head_path) newest → IsCleared newest m result → IsAnswer m result
+pub answered : (m : FileMap) (newest : ℕ) (result : Result ℕ RecoverError) → IsNewest (m head_path) newest
+    → IsCleared newest m result → IsAnswer m result
 answered m newest (Ok version) named (is, few) =
     let N : ℕ → Type 0 = λ n. IsNewest (m head_path) n in
     let F : ℕ → Type 0 = λ n. HasAtMost 65536 (n + 1) m in
@@ -62,15 +70,18 @@ answered m newest (Err Fault) named h = tt
 
 one_newest : (content : Content) (j k : ℕ) → IsNewest content j → IsNewest content k → j ≡ k
 one_newest None j k a b = a ∙ sym b
-one_newest (Some bytes) j k (least, most, is) (least_k, most_k, is_k) = head_text_tells j k (omega (arith, most)) (omega (arith, most_k)) (sym is ∙ is_k)
+one_newest (Some bytes) j k (least, most, is) (least_k, most_k, is_k) =
+    head_text_tells j k (omega (arith, most)) (omega (arith, most_k)) (sym is ∙ is_k)
 
 not_both : (content : Content) (newest : ℕ) → IsNewest content newest → NamesNone content → ⊥
 not_both None newest named none = none
 not_both (Some bytes) newest (least, most, is) none = none newest least most is
 
-pub keeps_named : (newest : ℕ) (old new : FileMap) → IsNewest (old head_path) newest → KeepsVersions newest old new → KeepsStore old new
+pub keeps_named : (newest : ℕ) (old new : FileMap) → IsNewest (old head_path) newest → KeepsVersions newest old new
+    → KeepsStore old new
 keeps_named newest old new named kept = record {
-  named = λ other is. let K : ℕ → Type 0 = λ n. KeepsVersions n old new in subst K (one_newest (old head_path) newest other named is) kept;
+  named = λ other is. let K : ℕ → Type 0 = λ n. KeepsVersions n old new in
+      subst K (one_newest (old head_path) newest other named is) kept;
   unnamed = λ none. absurd (not_both (old head_path) newest named none);
 }
 
@@ -83,14 +94,18 @@ of_ok (Ok v) Q holds = holds
 of_ok (Err e) Q holds = tt
 
 -- ---- over any disk
-module _ {D : Type 0} (clock : D → ℕ) (since : D → ℕ → FileMap → Type 0) (state : D → State) (a b : D) (here : IsImage (state a) (state a).present) where
+module _ {D : Type 0} (clock : D → ℕ) (since : D → ℕ → FileMap → Type 0) (state : D → State) (a b : D)
+    (here : IsImage (state a) (state a).present) where
   -- The new head goes.
-  pub new_head_goes : (list : List (List Source)) → IsWhole Stands list (state a) → WritesOnly clock since state new_head_path a b → AddsOnly clock since a b (λ m. Stands m list)
+  pub new_head_goes : (list : List (List Source)) → IsWhole Stands list (state a)
+      → WritesOnly clock since state new_head_path a b → AddsOnly clock since a b (λ m. Stands m list)
   new_head_goes list whole run = weaker clock since a b _ _ run.time
       ((own.leftover_calls list new_head_path (state a) here (inl refl) (own.room.whole list (state a) here whole)).run)
 
-  pub whole_without : (list : List (List Source)) → IsWhole Stands list (state a) → state b ≡ after_remove new_head_path (state a) → IsWhole Stands list (state b)
-  whole_without list whole done = let W : State → Type 0 = IsWhole Stands list in subst W (sym done) (own.whole_stays.new_head list (state a) here whole)
+  pub whole_without : (list : List (List Source)) → IsWhole Stands list (state a)
+      → state b ≡ after_remove new_head_path (state a) → IsWhole Stands list (state b)
+  whole_without list whole done = let W : State → Type 0 = IsWhole Stands list in
+      subst W (sym done) (own.whole_stays.new_head list (state a) here whole)
 
   pub new_head_gone : state b ≡ after_remove new_head_path (state a) → (state b).present new_head_path ≡ None
   new_head_gone done = ap (λ (s : State). s.present new_head_path) done ∙ removed-at new_head_path (state a)
@@ -100,29 +115,38 @@ module _ {D : Type 0} (clock : D → ℕ) (since : D → ℕ → FileMap → Typ
   same_present done = ap (λ (s : State). s.present) done ∙ sync_dir-present [] (state a)
 
   pub root_synced : (P : FileMap → Type 0) → ((m : FileMap) → IsImage (state a) m → P m)
-      → Elapses (clock a) (clock b) (since a) (since b) (IsBetween (state a) (after_sync_dir [] (state a))) → AddsOnly clock since a b P
+      → Elapses (clock a) (clock b) (since a) (since b) (IsBetween (state a) (after_sync_dir [] (state a)))
+      → AddsOnly clock since a b P
   root_synced P each time = goes_on clock since a a b P _ (started clock since a P) time
       (λ m between. each m ((own.folder_calls.sync_dir [] (state a) here).inside m between))
 
-  pub whole_after : (list : List (List Source)) → IsWhole Stands list (state a) → state b ≡ after_sync_dir [] (state a) → IsWhole Stands list (state b)
-  whole_after list whole done = let W : State → Type 0 = IsWhole Stands list in subst W (sym done) (own.whole_stays.synced list (state a) [] here whole)
-
-  pub old_after : (list : List (List Source)) (x : List Source) → IsFaulted Stands list x (state a) → Stands (state a).present list → state b ≡ after_sync_dir [] (state a)
+  pub whole_after : (list : List (List Source)) → IsWhole Stands list (state a) → state b ≡ after_sync_dir [] (state a)
       → IsWhole Stands list (state b)
-  old_after list x faulted stands done = let W : State → Type 0 = IsWhole Stands list in subst W (sym done) (own.after_fault.old list x (state a) here faulted stands)
+  whole_after list whole done = let W : State → Type 0 = IsWhole Stands list in
+      subst W (sym done) (own.whole_stays.synced list (state a) [] here whole)
 
-  pub new_after : (list : List (List Source)) (x : List Source) → IsFaulted Stands list x (state a) → Stands (state a).present (list ++ x ∷ []) → state b ≡ after_sync_dir [] (state a)
+  pub old_after : (list : List (List Source)) (x : List Source) → IsFaulted Stands list x (state a)
+      → Stands (state a).present list → state b ≡ after_sync_dir [] (state a)
+      → IsWhole Stands list (state b)
+  old_after list x faulted stands done = let W : State → Type 0 = IsWhole Stands list in
+      subst W (sym done) (own.after_fault.old list x (state a) here faulted stands)
+
+  pub new_after : (list : List (List Source)) (x : List Source) → IsFaulted Stands list x (state a)
+      → Stands (state a).present (list ++ x ∷ []) → state b ≡ after_sync_dir [] (state a)
       → IsWhole Stands (list ++ x ∷ []) (state b)
   new_after list x faulted stands done = let W : State → Type 0 = IsWhole Stands (list ++ x ∷ []) in
       subst W (sym done) (own.after_fault.new list x (state a) here faulted stands)
 
   -- After a fault: what comes after the sync of the root leaves one of the two lists.
-  pub either_after : (list : List (List Source)) (x : List Source) (c : D) → IsFaulted Stands list x (state a) → state b ≡ after_sync_dir [] (state a)
+  pub either_after : (list : List (List Source)) (x : List Source) (c : D) → IsFaulted Stands list x (state a)
+      → state b ≡ after_sync_dir [] (state a)
       → Elapses (clock a) (clock b) (since a) (since b) (IsBetween (state a) (after_sync_dir [] (state a)))
-      → ((Q : List (List Source)) → IsWhole Stands Q (state b) → AddsOnly clock since b c (λ m. Stands m Q)) → AddsOnly clock since a c (IsEither Stands list x)
+      → ((Q : List (List Source)) → IsWhole Stands Q (state b) → AddsOnly clock since b c (λ m. Stands m Q))
+      → AddsOnly clock since a c (IsEither Stands list x)
   either_after list x c faulted done time rest = then_on clock since a b c (IsEither Stands list x)
       (root_synced (IsEither Stands list x) faulted.either time) (of (faulted.either (state a).present here))
     where
       of : IsEither Stands list x (state a).present → AddsOnly clock since b c (IsEither Stands list x)
       of (inl stands) = weaker clock since b c _ _ (rest list (old_after list x faulted stands done)) (λ m s. inl s)
-      of (inr stands) = weaker clock since b c _ _ (rest (list ++ x ∷ []) (new_after list x faulted stands done)) (λ m s. inr s)
+      of (inr stands) =
+          weaker clock since b c _ _ (rest (list ++ x ∷ []) (new_after list x faulted stands done)) (λ m s. inr s)

@@ -22,20 +22,27 @@ pub record Counted (folder : Text) (old new : FileMap) (rounds : ℕ) : Type 0 w
 
 pub none_counted : (folder : Text) (m : FileMap) → Counted folder m m 0
 none_counted folder m = record {
-  fewer = λ n most. let A : ℕ → Type 0 = λ k. AtMost k (IsLeft folder m) in let e : n ≡ n - 0 = omega arith in subst A e most;
-  back = λ n most. let A : ℕ → Type 0 = λ k. AtMost k (IsLeft folder m) in let e : n ≡ n + 0 = omega arith in subst A e most;
+  fewer = λ n most. let A : ℕ → Type 0 = λ k. AtMost k (IsLeft folder m) in let e : n ≡ n - 0 = omega arith in
+      subst A e most;
+  back = λ n most. let A : ℕ → Type 0 = λ k. AtMost k (IsLeft folder m) in let e : n ≡ n + 0 = omega arith in
+      subst A e most;
   beside = λ q out. refl;
 }
 
-pub same_beside : (folder path : Text) (first old new : FileMap) → IsTrue (is_under folder path) → IsSameBeside folder first old → IsSameBut path old new → IsSameBeside folder first new
-same_beside folder path first old new under beside same q out = same q (λ e. let U : Text → Type 0 = λ t. IsTrue (is_under folder t) in out (subst U (sym e) under)) ∙ beside q out
+pub same_beside : (folder path : Text) (first old new : FileMap) → IsTrue (is_under folder path)
+    → IsSameBeside folder first old → IsSameBut path old new → IsSameBeside folder first new
+same_beside folder path first old new under beside same q out =
+    same q (λ e. let U : Text → Type 0 = λ t. IsTrue (is_under folder t) in out (subst U (sym e) under)) ∙ beside q out
 
-pub one_counted : (folder path : Text) (first old new : FileMap) (rounds : ℕ) → IsLeft folder old path → Counted folder first old rounds → IsSameBut path old new → new path ≡ None
+pub one_counted : (folder path : Text) (first old new : FileMap) (rounds : ℕ) → IsLeft folder old path
+    → Counted folder first old rounds → IsSameBut path old new → new path ≡ None
     → Counted folder first new (rounds + 1)
 one_counted folder path first old new rounds left counted same gone = record {
-  fewer = λ n most. let A : ℕ → Type 0 = λ k. AtMost k (IsLeft folder new) in let e : (n - rounds) - 1 ≡ n - (rounds + 1) = omega arith in
+  fewer = λ n most. let A : ℕ → Type 0 = λ k. AtMost k (IsLeft folder new) in
+      let e : (n - rounds) - 1 ≡ n - (rounds + 1) = omega arith in
       subst A e (one_removed folder path old new (n - rounds) left same gone (counted.fewer n most));
-  back = λ n most. let A : ℕ → Type 0 = λ k. AtMost k (IsLeft folder first) in let e : (n + 1) + rounds ≡ n + (rounds + 1) = omega arith in
+  back = λ n most. let A : ℕ → Type 0 = λ k. AtMost k (IsLeft folder first) in
+      let e : (n + 1) + rounds ≡ n + (rounds + 1) = omega arith in
       subst A e (counted.back (n + 1) (one_back folder path old new n same most));
   beside = same_beside folder path first old new left.0 counted.beside same;
 }
@@ -46,24 +53,36 @@ module _ {D : Type 0} (clock : D → ℕ) (since : D → ℕ → FileMap → Typ
     pub moments : AddsOnly clock since a b (λ m. Stands m list)
     pub clearing : IsClearing Stands list count (state b)
 
-  pub begins : (list : List (List Source)) (a : D) → IsImage (state a) (state a).present → IsWhole Stands list (state a) → Sofar list 65536 a a
-  begins list a here whole = record { moments = started clock since a (λ m. Stands m list); clearing = own.clearing.begins list (state a) here whole }
+  pub begins : (list : List (List Source)) (a : D) → IsImage (state a) (state a).present → IsWhole Stands list (state a)
+      → Sofar list 65536 a a
+  begins list a here whole =
+      record {
+        moments = started clock since a (λ m. Stands m list);
+        clearing = own.clearing.begins list (state a) here whole;
+      }
 
-  pub reads : (list : List (List Source)) (count : ℕ) (a b c : D) → Sofar list count a b → state c ≡ state b → Rests (clock b) (clock c) (since b) (since c) → Sofar list count a c
+  pub reads : (list : List (List Source)) (count : ℕ) (a b c : D) → Sofar list count a b → state c ≡ state b
+      → Rests (clock b) (clock c) (since b) (since c) → Sofar list count a c
   reads list count a b c sofar same time = record {
     moments = rests clock since a b c (λ m. Stands m list) sofar.moments time;
     clearing = let C : State → Type 0 = IsClearing Stands list count in subst C (sym same) sofar.clearing;
   }
 
   -- Whatever a removal answers, a crash leaves the list.
-  pub stands : (list : List (List Source)) (count : ℕ) (a b c : D) (path : Text) → count ≤ 65536 → IsImage (state b) (state b).present → Sofar list count a b
-      → IsOfVersion (length list + 1) path → IsThere ((state b).present path) → AddsOnly clock since b c (IsImageBut path (state b)) → AddsOnly clock since a c (λ m. Stands m list)
-  stands list count a b c path le here sofar under there time = then_on clock since a b c (λ m. Stands m list) sofar.moments
+  pub stands : (list : List (List Source)) (count : ℕ) (a b c : D) (path : Text) → count ≤ 65536
+      → IsImage (state b) (state b).present → Sofar list count a b
+      → IsOfVersion (length list + 1) path → IsThere ((state b).present path)
+      → AddsOnly clock since b c (IsImageBut path (state b)) → AddsOnly clock since a c (λ m. Stands m list)
+  stands list count a b c path le here sofar under there time =
+      then_on clock since a b c (λ m. Stands m list) sofar.moments
       (weaker clock since b c (IsImageBut path (state b)) (λ m. Stands m list) time
-      ((own.leftover_calls list path (state b) here (inr under) (own.room.clearing list count (state b) path le here sofar.clearing there)).run))
+      ((own.leftover_calls list path (state b) here (inr under)
+      (own.room.clearing list count (state b) path le here sofar.clearing there)).run))
 
-  pub goes : (list : List (List Source)) (count : ℕ) (a b c : D) (path : Text) → count ≤ 65536 → IsImage (state b) (state b).present → Sofar list count a b
-      → IsOfVersion (length list + 1) path → IsThere ((state b).present path) → AddsOnly clock since b c (IsImageBut path (state b))
+  pub goes : (list : List (List Source)) (count : ℕ) (a b c : D) (path : Text) → count ≤ 65536
+      → IsImage (state b) (state b).present → Sofar list count a b
+      → IsOfVersion (length list + 1) path → IsThere ((state b).present path)
+      → AddsOnly clock since b c (IsImageBut path (state b))
       → state c ≡ after_removal path (state b) → Sofar list (count - 1) a c
   goes list count a b c path le here sofar under there time done = record {
     moments = stands list count a b c path le here sofar under there time;

@@ -30,7 +30,8 @@ IsHeadRead content (Err Fault) = Unit {0}
 -- Of the files under the version after the newest none is left, or there were more than 65,536.
 abbrev pub IsCleared : ℕ → FileMap → Result ℕ RecoverError → Type 0
 IsCleared newest m (Ok version) = (version ≡ newest) × HasAtMost 65536 (newest + 1) m
-IsCleared newest m (Err (NotAStore version place)) = (HasAtMost 65536 (newest + 1) m → ⊥) × (version ≡ newest + 1) × (place ≡ 65536)
+IsCleared newest m (Err (NotAStore version place)) = (HasAtMost 65536 (newest + 1) m → ⊥) × (version ≡ newest + 1)
+    × (place ≡ 65536)
 IsCleared newest m (Err Fault) = Unit {0}
 
 -- The newest version is named, and there are more than 65,536 files under the next one.
@@ -44,7 +45,8 @@ pub record IsFull (m : FileMap) (version place : ℕ) : Type 0 where
 -- What recovery answers over a map.
 abbrev pub IsAnswer : FileMap → Result ℕ RecoverError → Type 0
 IsAnswer m (Ok newest) = IsNewest (m head_path) newest × HasAtMost 65536 (newest + 1) m
-IsAnswer m (Err (NotAStore version place)) = (NamesNone (m head_path) × (version ≡ 0) × (place ≡ 0)) ⊎ IsFull m version place
+IsAnswer m (Err (NotAStore version place)) = (NamesNone (m head_path) × (version ≡ 0) × (place ≡ 0))
+    ⊎ IsFull m version place
 IsAnswer m (Err Fault) = Unit {0}
 
 -- The newest version is that of the list, and the disk is clean for it.

@@ -5,7 +5,7 @@ ghost use Rattle.cdb_model.specs.Names.{version_folder};
 ghost use Rattle.cdb_model.specs.Stands.{Stands};
 ghost use Rattle.cdb_files.specs.Moments.{AddsOnly};
 ghost use Rattle.cdb_files.specs.Whole.{IsImageBut};
-ghost use Rattle.cdb_crash.specs.Crash.{IsWhole, IsClean};
+ghost use Rattle.cdb_crash.specs.Crash.{IsWhole};
 ghost use Rattle.cdb_crash.specs.Recovery.{after_removal};
 ghost use Rattle.cdb_recover.specs.Clearing.{IsSameBut, IsSameBeside, TellsFew, Clears};
 

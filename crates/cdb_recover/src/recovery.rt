@@ -18,12 +18,15 @@ use cdb_names::version_folder;
 /// Removes the files under the version after the newest.
 fn clear_next<D: Disk>(disk: &mut D, newest: u32) -> Result<u32, RecoverError>
     requires { newest ≤ 4096 }
-    ensures clean { D.tells → (list : List (List Source)) → newest ≡ length list → IsWhole Stands list (D.state disk.old)
+    ensures clean { D.tells → (list : List (List Source)) → newest ≡ length list
+        → IsWhole Stands list (D.state disk.old)
         → IfOk result (IsRecovered (D.state disk.new) list) }
-    ensures moments { D.tells → (list : List (List Source)) → newest ≡ length list → IsWhole Stands list (D.state disk.old)
+    ensures moments { D.tells → (list : List (List Source)) → newest ≡ length list
+        → IsWhole Stands list (D.state disk.old)
         → AddsOnly D.clock D.since disk.old disk.new (λ m. Stands m list) }
     ensures answer { D.tells → IsCleared newest (D.state disk.old).present result }
-    ensures beside { D.tells → IsSameBeside (version_folder (newest + 1)) (D.state disk.old).present (D.state disk.new).present }
+    ensures beside { D.tells
+        → IsSameBeside (version_folder (newest + 1)) (D.state disk.old).present (D.state disk.new).present }
     ensures number { IfOk result (λ version. version ≡ newest) }
     ensures later { D.fault_count disk.old ≤ D.fault_count disk.new }
     ensures failed { result ≡ Err RecoverError.Fault → Rose (D.fault_count disk.old) (D.fault_count disk.new) }
@@ -42,9 +45,11 @@ fn clear_next<D: Disk>(disk: &mut D, newest: u32) -> Result<u32, RecoverError>
 /// Removes what was left of a publication after the newest version.
 fn clear_after<D: Disk>(disk: &mut D, newest: u32) -> Result<u32, RecoverError>
     requires { newest ≤ 4096 }
-    ensures clean { D.tells → (list : List (List Source)) → newest ≡ length list → IsWhole Stands list (D.state disk.old)
+    ensures clean { D.tells → (list : List (List Source)) → newest ≡ length list
+        → IsWhole Stands list (D.state disk.old)
         → IfOk result (IsRecovered (D.state disk.new) list) }
-    ensures moments { D.tells → (list : List (List Source)) → newest ≡ length list → IsWhole Stands list (D.state disk.old)
+    ensures moments { D.tells → (list : List (List Source)) → newest ≡ length list
+        → IsWhole Stands list (D.state disk.old)
         → AddsOnly D.clock D.since disk.old disk.new (λ m. Stands m list) }
     ensures answer { D.tells → IsCleared newest (D.state disk.old).present result }
     ensures kept { D.tells → KeepsVersions newest (D.state disk.old).present (D.state disk.new).present }
@@ -92,11 +97,15 @@ pub fn recover<D: Disk>(disk: &mut D) -> Result<u32, RecoverError>
         → IfOk result (IsRecovered (D.state disk.new) list) }
     ensures moments { D.tells → (list : List (List Source)) → IsWhole Stands list (D.state disk.old)
         → AddsOnly D.clock D.since disk.old disk.new (λ m. Stands m list) }
-    ensures fault_old { D.tells → (list : List (List Source)) (x : List Source) → IsFaulted Stands list x (D.state disk.old)
+    ensures fault_old { D.tells → (list : List (List Source)) (x : List Source)
+        → IsFaulted Stands list x (D.state disk.old)
         → Stands (D.state disk.old).present list → IfOk result (IsRecovered (D.state disk.new) list) }
-    ensures fault_new { D.tells → (list : List (List Source)) (x : List Source) → IsFaulted Stands list x (D.state disk.old)
-        → Stands (D.state disk.old).present (list ++ x ∷ []) → IfOk result (IsRecovered (D.state disk.new) (list ++ x ∷ [])) }
-    ensures fault_moments { D.tells → (list : List (List Source)) (x : List Source) → IsFaulted Stands list x (D.state disk.old)
+    ensures fault_new { D.tells → (list : List (List Source)) (x : List Source)
+        → IsFaulted Stands list x (D.state disk.old)
+        → Stands (D.state disk.old).present (list ++ x ∷ [])
+        → IfOk result (IsRecovered (D.state disk.new) (list ++ x ∷ [])) }
+    ensures fault_moments { D.tells → (list : List (List Source)) (x : List Source)
+        → IsFaulted Stands list x (D.state disk.old)
         → AddsOnly D.clock D.since disk.old disk.new (IsEither Stands list x) }
     ensures answer { D.tells → IsAnswer (D.state disk.old).present result }
     ensures store { D.tells → (list : List (List Source)) → Stands (D.state disk.old).present list

@@ -156,3 +156,43 @@ fn the_head_names_the_newest_version_or_none(rt: HostRuntime) -> Result<(), Fail
     }
     Ok(())
 }
+
+/// The path of a file of version 1 by its number.
+fn leftover(number: u32) -> Path {
+    let mut path = Path::new();
+    path.push_str("V00000001/");
+    for place in [10_000, 1_000, 100, 10, 1] {
+        let digit = char::from_digit(number / place % 10, 10);
+        let _ = path.try_push(digit.unwrap_or('x'));
+    }
+    path
+}
+
+/// Makes the first so many files of version 1, each of which is empty.
+fn leave(disk: &mut MemDisk, count: u32) -> Result<(), Failed> {
+    for number in 0..count {
+        let path = leftover(number);
+        disk.make_dir(&folder_above(&path))?;
+        disk.create(&path)?;
+    }
+    Ok(())
+}
+
+/// Of one file more than can be removed the last one is left, and as many as can be all go.
+#[test]
+fn at_most_65_536_files_are_removed(rt: HostRuntime) -> Result<(), Fail> {
+    let last = leftover(65_536);
+    let folder = folder_above(&last);
+    let full = RecoverError::NotAStore {
+        version: 1,
+        place: 65_536,
+    };
+    let mut disk = MemDisk::new(rt.alloc(), Vec::new(rt.alloc()));
+    leave(&mut disk, 65_537)?;
+    assert!(rt; recover(&mut disk) == Err(full));
+    assert!(rt; disk.first_under(&folder)? == Some(last));
+    leave(&mut disk, 65_535)?;
+    assert!(rt; recover(&mut disk) == Ok(0));
+    assert!(rt; disk.first_under(&folder)?.is_none());
+    Ok(())
+}

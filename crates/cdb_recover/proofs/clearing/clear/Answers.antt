@@ -11,7 +11,8 @@ use Rattle.cdb_recover.proofs.clearing.clear.Goals as goal
 
 pub rounds-init : goal.rounds-init
 rounds-init g c = record {
-  going = λ told list is whole. begins g.D.Disk.clock g.D.Disk.since g.D.Disk.state list c.args.disk.now (g.met.D.Disk.present_possible c.args.disk.now told) whole;
+  going = λ told list is whole. begins g.D.Disk.clock g.D.Disk.since g.D.Disk.state list c.args.disk.now
+      (g.met.D.Disk.present_possible c.args.disk.now told) whole;
   counted = λ told. none_counted c.args.folder.now.bytes (g.D.Disk.state c.args.disk.now).present;
   later = omega arith;
   reads = refl;
@@ -24,8 +25,11 @@ returns-in-None-clause-clean g c told list is whole =
     let sofar = c.rounds.invariant.going told list is whole in
     let none : NoneUnder s.present folder = rw c.in-None.is at (c.in_ok-first_under.ensures.first told) in
     let N : Text → Type 0 = NoneUnder s.present in
-    let C : State → Type 0 = IsClean Stands list in
-    (refl, subst C (sym c.first_under.ensures.state) (own.clearing.ends list (65536 - c.rounds.counter) s sofar.clearing (subst N is none)))
+    let C : State → Type 0 = IsClean Stands list in (
+      refl,
+      subst C (sym c.first_under.ensures.state)
+          (own.clearing.ends list (65536 - c.rounds.counter) s sofar.clearing (subst N is none)),
+    )
 
 pub returns-in-None-2-clause-clean : goal.returns-in-None-2-clause-clean
 returns-in-None-2-clause-clean g c told list is whole =
@@ -34,8 +38,11 @@ returns-in-None-2-clause-clean g c told list is whole =
     let sofar = c.rounds.invariant.going told list is whole in
     let none : NoneUnder s.present folder = rw c.in-None-2.is at (c.in_ok-first_under-2.ensures.first told) in
     let N : Text → Type 0 = NoneUnder s.present in
-    let C : State → Type 0 = IsClean Stands list in
-    (refl, subst C (sym c.first_under-2.ensures.state) (own.clearing.ends list (65536 - c.rounds.counter) s sofar.clearing (subst N is none)))
+    let C : State → Type 0 = IsClean Stands list in (
+      refl,
+      subst C (sym c.first_under-2.ensures.state)
+          (own.clearing.ends list (65536 - c.rounds.counter) s sofar.clearing (subst N is none)),
+    )
 
 pub returns-in_err-remove_kept-in-Some-clause-moments : goal.returns-in_err-remove_kept-in-Some-clause-moments
 returns-in_err-remove_kept-in-Some-clause-moments g c told list is whole =
@@ -47,8 +54,10 @@ returns-in_err-remove_kept-in-Some-clause-moments g c told list is whole =
     let U : Text → Type 0 = λ f. IsTrue (is_under f path) in
     let there = subst T (sym c.first_under.ensures.state) first.there in
     let here = g.met.D.Disk.present_possible d told in
-    let now = reads clock since state list (65536 - c.rounds.counter) c.args.disk.now c.rounds.disk d (c.rounds.invariant.going told list is whole) c.first_under.ensures.state c.first_under.ensures.time in
-    stands clock since state list (65536 - c.rounds.counter) c.args.disk.now d c.remove_kept.new.disk path (omega arith) here now (subst U is first.under) there (c.remove_kept.ensures.time told)
+    let now = reads clock since state list (65536 - c.rounds.counter) c.args.disk.now c.rounds.disk d
+    (c.rounds.invariant.going told list is whole) c.first_under.ensures.state c.first_under.ensures.time in
+    stands clock since state list (65536 - c.rounds.counter) c.args.disk.now d c.remove_kept.new.disk path (omega arith)
+    here now (subst U is first.under) there (c.remove_kept.ensures.time told)
 
 pub rounds-preserved : goal.rounds-preserved
 rounds-preserved g c = record {
@@ -61,10 +70,12 @@ rounds-preserved g c = record {
       let U : Text → Type 0 = λ f. IsTrue (is_under f path) in
       let there = subst T (sym c.first_under.ensures.state) first.there in
       let here = g.met.D.Disk.present_possible d told in
-      let now = reads clock since state list (65536 - c.rounds.counter) c.args.disk.now c.rounds.disk d (c.rounds.invariant.going told list is whole) c.first_under.ensures.state c.first_under.ensures.time in
+      let now = reads clock since state list (65536 - c.rounds.counter) c.args.disk.now c.rounds.disk d
+      (c.rounds.invariant.going told list is whole) c.first_under.ensures.state c.first_under.ensures.time in
       let S : ℕ → Type 0 = λ n. Sofar clock since state list n c.args.disk.now c.remove_kept.new.disk in
       let less : (65536 - c.rounds.counter) - 1 ≡ 65536 - (c.rounds.counter + 1) = omega arith in
-      subst S less (goes clock since state list (65536 - c.rounds.counter) c.args.disk.now d c.remove_kept.new.disk path (omega arith) here now (subst U is first.under) there
+      subst S less (goes clock since state list (65536 - c.rounds.counter) c.args.disk.now d c.remove_kept.new.disk path
+      (omega arith) here now (subst U is first.under) there
       (c.remove_kept.ensures.time told) (c.in_ok-remove_kept-in-Some.ensures.ok told));
   counted = λ told.
       let clock = g.D.Disk.clock in let since = g.D.Disk.since in let state = g.D.Disk.state in
@@ -74,7 +85,8 @@ rounds-preserved g c = record {
       let T : State → Type 0 = λ t. IsThere (t.present path) in
       let K : State → Type 0 = λ t. Counted folder (state c.args.disk.now).present t.present c.rounds.counter in
       let there = subst T (sym c.first_under.ensures.state) first.there in
-      one_counted folder path (state c.args.disk.now).present (state d).present (state c.remove_kept.new.disk).present c.rounds.counter (first.under, there)
+      one_counted folder path (state c.args.disk.now).present (state d).present (state c.remove_kept.new.disk).present
+      c.rounds.counter (first.under, there)
       (subst K (sym c.first_under.ensures.state) (c.rounds.invariant.counted told)) (c.remove_kept.ensures.present told)
       (ap (λ (t : State). t.present path) (c.in_ok-remove_kept-in-Some.ensures.ok told) ∙ removal-at path (state d));
   later = omega (arith, c.rounds.invariant.later, c.first_under.ensures.cause.later, c.remove_kept.ensures.cause.later);
@@ -88,4 +100,5 @@ returns-in-Some-2-clause-few g c told most =
     let first : IsFirstUnder s.present folder path = rw c.in-Some-2.is at (c.in_ok-first_under-2.ensures.first told) in
     let A : ℕ → Type 0 = λ n. AtMost n (IsLeft folder s.present) in
     let zero : 65536 - c.rounds.counter ≡ 0 = omega (arith, c.rounds-test.false) in
-    one_left folder path s.present (first.under, first.there) (subst A zero ((c.rounds.invariant.counted told).fewer 65536 most))
+    one_left folder path s.present (first.under, first.there)
+    (subst A zero ((c.rounds.invariant.counted told).fewer 65536 most))

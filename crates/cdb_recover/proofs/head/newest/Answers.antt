@@ -8,5 +8,9 @@ pub returns-then-size-gt-HEAD_BYTES-clause-read : goal.returns-then-size-gt-HEAD
 returns-then-size-gt-HEAD_BYTES-clause-read g c told =
     let present = (g.D.Disk.state c.args.disk.now).present in
     let N : Text → Type 0 = λ q. NamesNone (present q) in
-    let size = sym c.in-Ok-Some.field-0-is ∙ c.in-Ok-Some.ensures.size told in
-    (subst N c.head-path.ensures (long_file (present c.head-path.result.bytes) c.in-Ok-Some.size size c.if-size-gt-HEAD_BYTES.true), refl, refl)
+    let size = sym c.in-Ok-Some.field-0-is ∙ c.in-Ok-Some.ensures.size told in (
+      subst N c.head-path.ensures
+          (long_file (present c.head-path.result.bytes) c.in-Ok-Some.size size c.if-size-gt-HEAD_BYTES.true),
+      refl,
+      refl,
+    )

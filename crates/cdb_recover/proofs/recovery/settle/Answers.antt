@@ -11,19 +11,24 @@ use Rattle.cdb_recover.proofs.recovery.settle.Goals as goal
 pub returns-in-Ok-clause-clean : goal.returns-in-Ok-clause-clean
 returns-in-Ok-clause-clean g c told list whole =
     let clock = g.D.Disk.clock in let since = g.D.Disk.since in let state = g.D.Disk.state in
-    let disk = c.args.disk.now in let one = c.newest.new.disk in let two = c.clear_after.new.disk in let here = g.met.D.Disk.present_possible disk told in
-    let is = newest_is (state disk).present list c.in-Ok.newest (whole.stands (state disk).present here) (c.in-Ok.ensures.read told) in
+    let disk = c.args.disk.now in let one = c.newest.new.disk in let two = c.clear_after.new.disk in
+    let here = g.met.D.Disk.present_possible disk told in
+    let is = newest_is (state disk).present list c.in-Ok.newest (whole.stands (state disk).present here)
+    (c.in-Ok.ensures.read told) in
     let W : State → Type 0 = IsWhole Stands list in
     c.clear_after.ensures.clean told list is (subst W (sym c.newest.ensures.state) whole)
 
 pub returns-in-Ok-clause-moments : goal.returns-in-Ok-clause-moments
 returns-in-Ok-clause-moments g c told list whole =
     let clock = g.D.Disk.clock in let since = g.D.Disk.since in let state = g.D.Disk.state in
-    let disk = c.args.disk.now in let one = c.newest.new.disk in let two = c.clear_after.new.disk in let here = g.met.D.Disk.present_possible disk told in
-    let is = newest_is (state disk).present list c.in-Ok.newest (whole.stands (state disk).present here) (c.in-Ok.ensures.read told) in
+    let disk = c.args.disk.now in let one = c.newest.new.disk in let two = c.clear_after.new.disk in
+    let here = g.met.D.Disk.present_possible disk told in
+    let is = newest_is (state disk).present list c.in-Ok.newest (whole.stands (state disk).present here)
+    (c.in-Ok.ensures.read told) in
     let W : State → Type 0 = IsWhole Stands list in
     then_on clock since disk one two (λ m. Stands m list)
-    (rests clock since disk disk one (λ m. Stands m list) (started clock since disk (λ m. Stands m list)) c.newest.ensures.time)
+    (rests clock since disk disk one (λ m. Stands m list) (started clock since disk (λ m. Stands m list))
+    c.newest.ensures.time)
     (c.clear_after.ensures.moments told list is (subst W (sym c.newest.ensures.state) whole))
 
 pub returns-in-Ok-clause-kept : goal.returns-in-Ok-clause-kept
