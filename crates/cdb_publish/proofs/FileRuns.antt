@@ -1,13 +1,12 @@
 -- A file that is written piece by piece.
-use Rattle.std.proofs.Common.{◌≡◌, ℕ, ◌+◌, ◌*◌, ◌≤◌, ℤ, List, [], ◌∷◌, ◌++◌, take, drop, length, Some, None, refl, sym, ap, ◌∙◌, subst, arith, append_assoc}
+use Rattle.std.proofs.Common.{◌≡◌, ℕ, ◌+◌, ◌*◌, ◌≤◌, List, ◌++◌, take, drop, length, sym, ap, ◌∙◌, subst, arith, append_assoc}
 use Rattle.std.proofs.Math.Seq.{take-add, drop-drop}
 use Rattle.std.proofs.lemmas.Grind.{flat_map-append}
 use Rattle.std.proofs.lemmas.List.{take_all}
 use Rattle.cdb_source.specs.Texts.{posts_text, post_bytes, row_of_posts}
 use Rattle.cdb_source.specs.declared.source.Source.{Source}
 use Rattle.cdb_cut.specs.Window.{rows_of}
-use Rattle.cdb_model.specs.Maps.{Text, Content, IsThere, put}
-use Rattle.cdb_model.proofs.MapLaws.{put-same}
+use Rattle.cdb_model.specs.Maps.{Text}
 use Rattle.cdb_files.specs.Disk.{State, after_append}
 use Rattle.cdb_files.specs.Whole.{after_pieces}
 use Rattle.cdb_files.proofs.StateLaws.{append-pieces}

@@ -1,6 +1,5 @@
 -- Frames that were written to are as long as before.
-use Rattle.std.proofs.Common.{◌≡◌, ℕ, ◌*◌, ◌≤◌, ℤ, List, length, Some, sym, ap, ◌∙◌, subst, arith}
-use Rattle.std.specs.Prelude.{slice_get}
+use Rattle.std.proofs.Common.{◌≡◌, ℕ, ℤ, List, length, sym, ap, ◌∙◌, subst, arith}
 use Rattle.std.specs.Vec.{with_items}
 use Rattle.std.specs.declared.vec.Vec.{Vec}
 use Rattle.std.proofs.lemmas.List.{with_items_is}
@@ -15,20 +14,13 @@ written v ws e = with_items_is v ws (e ∙ sym v.ok.0)
 long : {X Z : Type 0} (v : Vec X Z) (ws : List X) → length ws ≡ length v.items → length (with_items v ws).items ≡ length v.items
 long v ws e = ap length (written v ws e) ∙ e
 
-pub ready_after : (p : Plan) (f : Frames) (bytes : List ℕ) (posts scratch : List ℤ) (window_bytes : List ℕ) (window_posts : List ℤ) → IsReady p f
+pub ready_after : (p : Plan) (f : Frames) (bytes : List ℕ) (posts scratch : List ℤ) → IsReady p f
     → length bytes ≡ length f.bytes.items → length posts ≡ length f.posts.items → length scratch ≡ length f.scratch.items
-    → length window_bytes ≡ length f.window_bytes.items → length window_posts ≡ length f.window_posts.items
-    → IsReady p (record {
-      bytes = with_items f.bytes bytes;
-      posts = with_items f.posts posts;
-      scratch = with_items f.scratch scratch;
-      window_bytes = with_items f.window_bytes window_bytes;
-      window_posts = with_items f.window_posts window_posts;
-    })
-ready_after p f bytes posts scratch window_bytes window_posts ready a b c d e = record {
+    → IsReady p (record { bytes = with_items f.bytes bytes; posts = with_items f.posts posts; scratch = with_items f.scratch scratch })
+ready_after p f bytes posts scratch ready a b c = record {
   bytes = omega (arith, ready.bytes, long f.bytes bytes a);
   posts = omega (arith, ready.posts, long f.posts posts b);
   scratch = omega (arith, ready.scratch, long f.scratch scratch c);
-  window_bytes = omega (arith, ready.window_bytes, long f.window_bytes window_bytes d, long f.window_posts window_posts e);
-  room = λ i t at. let R : ℕ → Type 0 = λ n. HasRoom p.record.heads t n in subst R (sym (long f.window_posts window_posts e)) (ready.room i t at);
+  row_bytes = omega (arith, ready.row_bytes, long f.bytes bytes a, long f.scratch scratch c);
+  room = λ i t at. let R : ℕ → Type 0 = λ n. HasRoom p.record.heads t n in subst R (sym (long f.scratch scratch c)) (ready.room i t at);
 }

@@ -7,14 +7,14 @@ use Rattle.std.proofs.lemmas.Option.{get_or_from_slice_get}
 use Rattle.cdb_grid.specs.Grid.{Place}
 use Rattle.cdb_grid.specs.Tiles.{IsInTile, place_in}
 use Rattle.cdb_grid.specs.declared.family.Family.{Family}
-use Rattle.cdb_grid.specs.declared.family.Family.TheVariants.{Elev, Low, High, Mat}
+use Rattle.cdb_grid.specs.declared.family.Family.TheVariants.{Elev, Low, High}
 use Rattle.cdb_grid.specs.declared.tile.Tile.{Tile}
 use Rattle.cdb_source.specs.Sample.{IsInBox}
 use Rattle.cdb_source.specs.declared.head.SourceHead.{SourceHead}
 use Rattle.cdb_source.specs.Reached.{Reached, Reaches, IsTouched, source_height}
 use Rattle.cdb_source.specs.declared.source.Source.{Source}
 use Rattle.cdb_model.specs.ByteLaws.{BytesByReaching}
-use Rattle.cdb_model.specs.Machine.{heads_of, sources_of}
+use Rattle.cdb_model.specs.Publications.{heads_of, sources_of}
 use Rattle.cdb_model.specs.Names.{path, source_path}
 use Rattle.cdb_model.specs.Stands.{Stands}
 use Rattle.cdb_model.specs.TileFile.{tile_bytes}

@@ -1,14 +1,14 @@
 -- A publication begins: what its plan is that of.
-use Rattle.std.proofs.Common.{◌≡◌, ℕ, zero, suc, ◌+◌, ◌≤◌, ◌<◌, List, [], ◌∷◌, ◌++◌, map, length, length-append, get_or, Some, refl, sym, ap, ◌∙◌, subst, arith}
+use Rattle.std.proofs.Common.{◌≡◌, ℕ, zero, suc, ◌+◌, ◌≤◌, List, [], ◌∷◌, ◌++◌, map, length, length-append, Some, refl, sym, ap, ◌∙◌, arith}
 use Rattle.std.specs.Prelude.{slice_get, All}
-use Rattle.std.proofs.lemmas.List.{length-map, map-append}
+use Rattle.std.proofs.lemmas.List.{map-append}
 use Rattle.std.proofs.lemmas.List.Sums.{sum_by-cons}
 use Rattle.std.proofs.lemmas.List.Elements.{All-append}
 use Rattle.cdb_grid.specs.declared.tile.Tile.{Tile}
 use Rattle.cdb_source.specs.Reached.{IsTouched}
 use Rattle.cdb_source.specs.declared.source.Source.{Source}
 use Rattle.cdb_manifest.specs.declared.record_.Record.{Record}
-use Rattle.cdb_model.specs.Machine.{heads_of, sources_of}
+use Rattle.cdb_model.specs.Publications.{heads_of, sources_of}
 use Rattle.cdb_model.specs.Maps.{folder_above}
 use Rattle.cdb_model.specs.Names.{path, source_path}
 use Rattle.cdb_model.specs.Stands.{IsPublication, IsEntryCount, ArePublications}

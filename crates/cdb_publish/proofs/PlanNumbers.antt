@@ -1,12 +1,12 @@
 -- Which step of a plan has a number, with paths and bytes that are only equal to those of the step.
-use Rattle.std.proofs.Common.{◌≡◌, ℕ, ◌+◌, List, ◌∷◌, ◌++◌, [], length, map, Some, refl, sym, ap, ◌∙◌, subst, arith}
+use Rattle.std.proofs.Common.{◌≡◌, ℕ, ◌+◌, List, ◌∷◌, ◌++◌, [], length, Some, refl, sym, ap, ◌∙◌, subst, arith}
 use Rattle.std.specs.Prelude.{slice_get}
 use Rattle.std.proofs.lemmas.List.{length-map}
 use Rattle.arrayvec.specs.ArrayString.{ArrayString}
 use Rattle.cdb_grid.specs.declared.tile.Tile.{Tile}
 use Rattle.cdb_source.specs.Texts.{source_text}
 use Rattle.cdb_source.specs.declared.source.Source.{Source}
-use Rattle.cdb_model.specs.Machine.{sources_of}
+use Rattle.cdb_model.specs.Publications.{sources_of}
 use Rattle.cdb_model.specs.Maps.{Text}
 use Rattle.cdb_model.specs.Names.{source_path, record_path, path}
 use Rattle.cdb_model.specs.TileFile.{tile_bytes}

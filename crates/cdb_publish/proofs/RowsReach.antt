@@ -1,5 +1,5 @@
 -- A source of which a tile takes rows reaches the tile.
-use Rattle.std.proofs.Common.{◌≡◌, ℕ, ◌<◌, ◌≤◌, Bool, true, false, ◌&&◌, length, refl, sym, ap, subst, arith}
+use Rattle.std.proofs.Common.{◌≡◌, ℕ, ◌<◌, true, refl, sym, ap, subst, arith}
 use Rattle.std.specs.List.{list_any, range_with_len}
 use Rattle.std.proofs.lemmas.Bool.Decides.{Decides-int_eq}
 use Rattle.std.proofs.lemmas.List.Folds.{Any-from_list_any}
@@ -10,7 +10,7 @@ use Rattle.cdb_grid.specs.Units.{height_of}
 use Rattle.cdb_grid.specs.declared.tile.Tile.{Tile}
 use Rattle.cdb_grid.proofs.ElementLaws.{element-corner, place-in-tile}
 use Rattle.cdb_grid.proofs.TileOrder.{both}
-use Rattle.cdb_source.specs.Reached.{Reaches, kind_of, source_height}
+use Rattle.cdb_source.specs.Reached.{kind_of, source_height}
 use Rattle.cdb_source.specs.Sample.{IsInBox, is_in_box}
 use Rattle.cdb_source.specs.Values.{same_kind}
 use Rattle.cdb_source.specs.declared.head.SourceHead.{SourceHead}
@@ -19,7 +19,6 @@ use Rattle.cdb_source.specs.declared.kind.Kind.TheVariants.{Elevation, Material}
 use Rattle.cdb_source.proofs.SampleLaws.{in_box}
 use Rattle.cdb_cut.specs.Window.{HasPlace, has_place, has_window}
 use Rattle.cdb_publish.specs.Laws.{RowsReach}
-use Rattle.cdb_publish.specs.Windows.{takes_rows}
 
 same_from : (k l : Kind) → same_kind k l ≡ true → k ≡ l
 same_from Elevation Elevation e = refl

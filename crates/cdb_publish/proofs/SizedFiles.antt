@@ -6,7 +6,7 @@ use Rattle.cdb_grid.specs.declared.tile.Tile.{Tile}
 use Rattle.cdb_source.specs.Texts.{front_text, posts_text, source_text}
 use Rattle.cdb_source.specs.declared.source.Source.{Source}
 use Rattle.cdb_source.proofs.TextLaws.{length-front_text, length-posts_text}
-use Rattle.cdb_model.specs.Machine.{heads_of}
+use Rattle.cdb_model.specs.Publications.{heads_of}
 use Rattle.cdb_model.specs.Maps.{FileMap, size_of}
 use Rattle.cdb_model.specs.Names.{source_path}
 use Rattle.cdb_manifest.specs.declared.record_.Record.{Record}

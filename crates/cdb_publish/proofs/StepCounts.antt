@@ -1,5 +1,5 @@
 -- All steps of a publication, made or left.
-use Rattle.std.proofs.Common.{◌≡◌, ℕ, ◌+◌, ◌-◌, ◌≤◌, Bool, List, [], ◌∷◌, ◌++◌, map, filter, length, Option, Some, refl, sym, ap, ◌∙◌, subst, arith}
+use Rattle.std.proofs.Common.{◌≡◌, ℕ, ◌+◌, ◌-◌, List, [], ◌∷◌, ◌++◌, map, filter, length, refl, sym, ap, ◌∙◌, arith}
 use Rattle.std.specs.Prelude.{not}
 use Rattle.std.specs.Str.{bytes_eq}
 use Rattle.std.proofs.lemmas.List.{length-map, map-append}
@@ -11,9 +11,8 @@ use Rattle.cdb_model.specs.Publications.{sources_of, source_paths, file_paths, f
 use Rattle.cdb_model.specs.Publications as publications
 use Rattle.cdb_crash.specs.Plan.{File, source_files, tile_file, files_of, folders_of, each_once}
 use Rattle.cdb_publish.specs.Fitting.{IsSoundFor, steps_before_head, left_in}
-use Rattle.cdb_publish.specs.Going.{left_of, Underway}
+use Rattle.cdb_publish.specs.Going.{left_of}
 use Rattle.cdb_publish.specs.Laws.{StepsAreCounted}
-use Rattle.cdb_publish.specs.declared.work.Work.{Work}
 use Rattle.cdb_publish.proofs.Underways.{heads_counted}
 
 same_once : (xs : List Text) → each_once xs ≡ publications.each_once xs

@@ -1,11 +1,8 @@
 -- How far a publication is, before and after a step.
-use Rattle.std.proofs.Common.{◌≡◌, ℕ, zero, suc, ◌+◌, ◌-◌, ◌<◌, ◌≤◌, ◌⊎◌, inl, inr, List, [], ◌∷◌, ◌++◌, length, length-append, get_or, drop, map, Option, Some, None, refl, sym, ap, ◌∙◌, subst, arith}
+use Rattle.std.proofs.Common.{◌≡◌, ℕ, zero, suc, ◌+◌, ◌-◌, ◌<◌, List, [], ◌∷◌, ◌++◌, length, get_or, drop, Option, Some, None, refl, sym, ap, ◌∙◌, subst, arith}
 use Rattle.std.specs.Prelude.{slice_get, reverse, option_to_list}
-use Rattle.std.proofs.lemmas.List.{length-map, reverse-append, reverse-reverse}
-use Rattle.cdb_source.specs.Reached.{IsTouched}
-use Rattle.cdb_source.specs.declared.head.SourceHead.{SourceHead}
+use Rattle.std.proofs.lemmas.List.{length-map, reverse-append}
 use Rattle.cdb_source.specs.declared.source.Source.{Source}
-use Rattle.cdb_model.specs.Machine.{heads_of}
 use Rattle.cdb_model.specs.Stands.{Stands}
 use Rattle.cdb_files.specs.Disk.{State, IsImage}
 use Rattle.cdb_manifest.specs.declared.record_.Record.{Record}

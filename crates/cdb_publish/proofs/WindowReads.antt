@@ -21,7 +21,7 @@ use Rattle.cdb_cut.proofs.WindowTests as windows
 use Rattle.cdb_cut.specs.OneTile.{IsPainted, IsPaintedBy}
 use Rattle.cdb_cut.proofs.OneTileWhole.{paint_source, pass_outside}
 use Rattle.std.proofs.lemmas.List.{length-map}
-use Rattle.cdb_model.specs.Machine.{heads_of}
+use Rattle.cdb_model.specs.Publications.{heads_of}
 use Rattle.cdb_crash.proofs.NewestFiles.{some_is}
 use Rattle.cdb_crash.proofs.PlanNumbers.{got, get-map}
 use Rattle.cdb_publish.specs.Needs.{Need}

@@ -1,13 +1,12 @@
 -- Which publication a value of the program stands for, and how far it is.
-use Rattle.std.specs.Prelude.{◌≡◌, ℕ, ◌+◌, ◌<◌, ◌≤◌, List, [], ◌∷◌, ◌++◌, length, drop, map, reverse, slice_get}
+use Rattle.std.specs.Prelude.{◌≡◌, ℕ, ◌+◌, ◌≤◌, List, [], ◌∷◌, ◌++◌, length, drop, map, reverse}
 use Rattle.std.specs.Prelude.{Option, Some, None, ◌-◌}
 use Rattle.cdb_source.specs.Reached.{IsTouched}
 use Rattle.cdb_source.specs.declared.source.Source.{Source}
-use Rattle.cdb_model.specs.Machine.{heads_of}
+use Rattle.cdb_model.specs.Publications.{heads_of}
 use Rattle.cdb_model.specs.Records.{record_text}
 use Rattle.cdb_model.specs.Stands.{ArePublications}
 use Rattle.cdb_crash.specs.Plan.{files_of, folders_of}
-use Rattle.cdb_manifest.specs.declared.record_.Record.{Record}
 use Rattle.cdb_publish.specs.Ready.{IsReady}
 use Rattle.cdb_publish.specs.declared.plan.Plan.{Plan}
 use Rattle.cdb_publish.specs.declared.work.Work.{Work}

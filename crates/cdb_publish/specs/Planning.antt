@@ -6,7 +6,7 @@ use Rattle.cdb_grid.specs.declared.tile.Tile.{Tile}
 use Rattle.cdb_source.specs.Reached.{IsTouched, IsLoad}
 use Rattle.cdb_source.specs.declared.head.SourceHead.{SourceHead}
 use Rattle.cdb_manifest.specs.declared.record_.Record.{Record}
-use Rattle.cdb_model.specs.Maps.{Text, folder_above}
+use Rattle.cdb_model.specs.Maps.{Text}
 use Rattle.cdb_model.specs.Names.{source_path, path}
 use Rattle.cdb_publish.specs.Entries.{entries_in}
 use Rattle.cdb_publish.specs.declared.errors.PlanError.{PlanError}

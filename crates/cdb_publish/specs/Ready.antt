@@ -10,6 +10,6 @@ pub record IsReady (p : Plan) (f : Frames) : Type 0 where
   pub bytes : 2097338 ≤ length f.bytes.items
   pub posts : 1048576 ≤ length f.posts.items
   pub scratch : 1048576 ≤ length f.scratch.items
-  pub window_bytes : 2 * length f.window_posts.items ≤ length f.window_bytes.items
+  pub row_bytes : 2 * length f.scratch.items ≤ length f.bytes.items
   pub room : (i : ℕ) (t : Tile) → slice_get p.record.tiles i ≡ Some t
-      → HasRoom p.record.heads t (length f.window_posts.items)
+      → HasRoom p.record.heads t (length f.scratch.items)

@@ -4,7 +4,7 @@ use Rattle.cdb_grid.specs.declared.family.Family.{Family}
 use Rattle.cdb_grid.specs.declared.family.Family.TheVariants.{Elev, Low, High, Mat}
 use Rattle.cdb_grid.specs.declared.tile.Tile.{Tile}
 use Rattle.cdb_source.specs.declared.source.Source.{Source}
-use Rattle.cdb_model.specs.Machine.{heads_of}
+use Rattle.cdb_model.specs.Publications.{heads_of}
 use Rattle.cdb_model.specs.Maps.{FileMap}
 use Rattle.cdb_model.specs.Names.{path}
 use Rattle.cdb_model.specs.TileFile.{tile_bytes}

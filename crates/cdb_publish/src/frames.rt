@@ -1,14 +1,10 @@
 /// The memory in which the steps of a publication are made.
 #[derive(Drop)]
 pub struct Frames {
-    /// The bytes of a tile's file, or of rows of a source.
+    /// The bytes of a tile's file, or of the rows of a source that a tile takes.
     pub(crate) bytes: Vec<u8>,
     /// The values of a tile, the south row first.
     pub(crate) posts: Vec<i16>,
-    /// The values of a finer or an older tile.
+    /// The values of a finer or an older tile, or the posts of these rows.
     pub(crate) scratch: Vec<i16>,
-    /// The bytes of the rows of a source that a tile takes.
-    pub(crate) window_bytes: Vec<u8>,
-    /// The posts of these rows.
-    pub(crate) window_posts: Vec<i16>,
 }

@@ -79,8 +79,6 @@ pub(crate) fn tile_step<D: Disk>(
         chain,
         frames.bytes.as_mut_slice(),
         frames.scratch.as_mut_slice(),
-        frames.window_bytes.as_mut_slice(),
-        frames.window_posts.as_mut_slice(),
         frames.posts.as_mut_slice(),
         disk,
     ) {

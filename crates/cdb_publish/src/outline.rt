@@ -1,7 +1,7 @@
 //! What a publication is to write.
 ghost use Rattle.std.specs.Prelude.{◌≡◌, ℕ, ◌+◌, ◌≤◌, ◌<◌, List, length, IfOk, IfErr};
 ghost use Rattle.cdb_source.specs.declared.source.Source as given;
-ghost use Rattle.cdb_model.specs.Machine.{heads_of};
+ghost use Rattle.cdb_model.specs.Publications.{heads_of};
 ghost use Rattle.cdb_model.specs.Stands.{ArePublications};
 ghost use Rattle.cdb_chain.specs.Publications.{AreRecords};
 ghost use Rattle.cdb_publish.specs.Fitting.{Plans};

@@ -2,7 +2,7 @@
 ghost use Rattle.std.specs.Prelude.{◌≡◌, ℕ, ◌+◌, ◌*◌, ◌≤◌, List, length, reverse, IfOk, IfErr};
 ghost use Rattle.cdb_source.specs.Reached.{IsLoad};
 ghost use Rattle.cdb_source.specs.declared.source.Source as given;
-ghost use Rattle.cdb_model.specs.Machine.{heads_of};
+ghost use Rattle.cdb_model.specs.Publications.{heads_of};
 ghost use Rattle.cdb_model.specs.Stands.{Stands};
 ghost use Rattle.cdb_crash.specs.Crash.{IsClean};
 ghost use Rattle.cdb_chain.specs.Publications.{AreRecords};
@@ -28,22 +28,20 @@ pub struct PlanRefused {
     pub sources: Vec<Source>,
 }
 
-/// The memory for the steps of a plan.
+/// The memory for the steps of a plan: as many posts as the largest tile has, or the most rows of a source
+/// that one of its tiles takes, and the bytes of either.
 fn frames(alloc: Global, plan: &Plan) -> Result<Frames, AllocError>
     ensures { IfOk result (IsReady plan.now) }
 {
-    let room = largest_window(plan.record.heads.as_slice(), plan.record.tiles.as_slice());
-    let bytes = vec![in alloc; 0; 2_097_338]?;
+    let window = largest_window(plan.record.heads.as_slice(), plan.record.tiles.as_slice());
+    let room = window.max(1_048_576);
+    let bytes = vec![in alloc; 0; 2 * room + 186]?;
     let posts = vec![in alloc; 0; 1_048_576]?;
-    let scratch = vec![in alloc; 0; 1_048_576]?;
-    let window_bytes = vec![in alloc; 0; 2 * room]?;
-    let window_posts = vec![in alloc; 0; room]?;
+    let scratch = vec![in alloc; 0; room]?;
     Ok(Frames {
         bytes,
         posts,
         scratch,
-        window_bytes,
-        window_posts,
     })
 }
 

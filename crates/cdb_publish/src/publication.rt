@@ -19,7 +19,8 @@ pub struct Publication {
 }
 
 impl Publication {
-    ghost use Rattle.std.specs.Prelude.{◌≡◌, ℕ, ◌+◌, ◌<◌, ◌≤◌, ◌++◌, ◌∷◌, [], List, length, Some, OnOk, OnErr, IfOk, IfErr};
+    ghost use Rattle.std.specs.Prelude.{◌≡◌, ℕ, ◌+◌, ◌<◌, ◌≤◌, ◌++◌, ◌∷◌, [], List, length, Some};
+    ghost use Rattle.std.specs.Prelude.{OnOk, OnErr, IfOk, IfErr};
     ghost use Rattle.cdb_source.specs.declared.source.Source as given;
     ghost use Rattle.cdb_model.specs.Stands.{Stands};
     ghost use Rattle.cdb_files.specs.Moments.{AddsOnly};

@@ -11,6 +11,10 @@ ghost use Rattle.cdb_files.specs.Whole.{after_pieces, after_write, WritesOnly};
 use cdb_files::{Disk, Failed, Path, folder_above};
 use cdb_source::{Source, encode_head, encode_row};
 
+/// How many bytes a piece of a source's file has at most, however long the buffer is: it stays in the
+/// processor's cache from the gathering of its rows to its writing.
+const PIECE: usize = 2_097_152;
+
 /// Makes the folder of a file where it isn't there, and an empty file.
 fn begin_file<D: Disk>(disk: &mut D, path: &Path) -> Result<(), Failed>
     ensures ok { D.tells → OnOk result (D.state disk.new ≡ after_pieces path.now.bytes [] (after_make_dir
@@ -47,7 +51,7 @@ fn gather_rows(source: &Source, first: usize, count: usize, to: &mut [u8])
     }
 }
 
-/// Appends all rows of a source, as many in a piece as the buffer holds.
+/// Appends all rows of a source, as many in a piece as the buffer and a piece hold.
 fn append_rows<D: Disk>(
     disk: &mut D,
     path: &Path,
@@ -64,7 +68,7 @@ fn append_rows<D: Disk>(
 {
     let rows = source.head.rows as usize;
     let size = 2 * source.head.cols as usize;
-    let most = buffer.len() / size;
+    let most = buffer.len().min(PIECE) / size;
     let mut done = 0;
     'pieces: while done < rows {
         let count = most.min(rows - done);

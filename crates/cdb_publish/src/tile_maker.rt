@@ -3,7 +3,7 @@ ghost use Rattle.std.specs.Prelude.{◌≡◌, ◌+◌, ◌*◌, ◌<◌, ◌≤
 ghost use Rattle.std.specs.Prelude.{slice_get, Some};
 ghost use Rattle.cdb_grid.specs.declared.tile.Tile as grid;
 ghost use Rattle.cdb_source.specs.declared.source.Source as given;
-ghost use Rattle.cdb_model.specs.Machine.{sources_of};
+ghost use Rattle.cdb_model.specs.Publications.{sources_of};
 ghost use Rattle.cdb_model.specs.TileFile.{tile_bytes};
 ghost use Rattle.cdb_files.specs.Moments.{Rests};
 ghost use Rattle.cdb_crash.specs.Plan.{IsMidAfter};
@@ -24,16 +24,14 @@ use cdb_grid::{children, side};
 use cdb_tiff_write::{put_file, tile_size};
 
 /// Makes the file of the tile of this number at the front of `bytes`, and answers its length. `bytes`,
-/// `scratch` and `frame` have room for the largest tile, and the frames of windows for the rows of each
-/// source that the tile takes.
+/// `scratch` and `frame` have room for the largest tile, the first two for the rows of each source that
+/// the tile takes as well.
 pub(crate) fn make_tile<D: Disk>(
     plan: &Plan,
     number: usize,
     chain: &Chain,
     bytes: &mut [u8],
     scratch: &mut [i16],
-    window_bytes: &mut [u8],
-    window_posts: &mut [i16],
     frame: &mut [i16],
     disk: &mut D,
 ) -> Result<usize, StepError>
@@ -42,8 +40,8 @@ pub(crate) fn make_tile<D: Disk>(
     requires scratch { 1048576 ≤ length scratch.old }
     requires frame { 1048576 ≤ length frame.old }
     requires room { (t : grid.Tile) → slice_get plan.now.record.tiles number ≡ Some t
-        → HasRoom plan.now.record.heads t (length window_posts.old) }
-    requires window_bytes { 2 * length window_posts.old ≤ length window_bytes.old }
+        → HasRoom plan.now.record.heads t (length scratch.old) }
+    requires row_bytes { 2 * length scratch.old ≤ length bytes.old }
     ensures bytes { D.tells → (P : List (List given.Source)) (x : List given.Source) → Plans plan.now P x
         → AreRecords chain.now.records P
         → IsMidAfter P x plan.now.record.tiles (length x + number) (D.state disk.old)
@@ -69,18 +67,7 @@ pub(crate) fn make_tile<D: Disk>(
     let side = side(tile.level) as usize;
     let size = tile_size(tile);
     let frame = &mut frame[..side * side];
-    match make_values(
-        plan,
-        chain,
-        tile,
-        list,
-        bytes,
-        scratch,
-        window_bytes,
-        window_posts,
-        frame,
-        disk,
-    ) {
+    match make_values(plan, chain, tile, list, bytes, scratch, frame, disk) {
         Ok(()) => {}
         Err(error) => return Err(error),
     }

@@ -65,8 +65,6 @@ fn make_own<D: Disk>(
     children: &[Tile],
     bytes: &mut [u8],
     scratch: &mut [i16],
-    window_bytes: &mut [u8],
-    window_posts: &mut [i16],
     frame: &mut [i16],
     disk: &mut D,
 ) -> Result<(), StepError>
@@ -74,8 +72,8 @@ fn make_own<D: Disk>(
     requires children { AreChildren tile.now children.now }
     requires bytes { 2097338 ≤ length bytes.old }
     requires scratch { 1048576 ≤ length scratch.old }
-    requires room { HasRoom plan.now.record.heads tile.now (length window_posts.old) }
-    requires window_bytes { 2 * length window_posts.old ≤ length window_bytes.old }
+    requires room { HasRoom plan.now.record.heads tile.now (length scratch.old) }
+    requires row_bytes { 2 * length scratch.old ≤ length bytes.old }
     requires frame { length frame.old ≡ tile_side tile.now * tile_side tile.now }
     ensures values { D.tells → (ss x : List given.Source)
         → HasFiles plan.now chain.now.records (D.state disk.old).present ss x tile.now children.now
@@ -94,7 +92,7 @@ fn make_own<D: Disk>(
         Ok(()) => {}
         Err(error) => return Err(error),
     }
-    match paint_sources(plan, tile, window_bytes, window_posts, frame, disk) {
+    match paint_sources(plan, tile, bytes, scratch, frame, disk) {
         Ok(()) => {}
         Err(error) => return Err(error),
     }
@@ -143,8 +141,8 @@ fn make_extreme<D: Disk>(
     }
 }
 
-/// Makes the values of a tile. `bytes` and `scratch` have room for the largest tile, and the frames of
-/// windows for the rows of each source that the tile takes.
+/// Makes the values of a tile. `bytes` and `scratch` have room for the largest tile, and for the rows of
+/// each source that the tile takes.
 pub(crate) fn make_values<D: Disk>(
     plan: &Plan,
     chain: &Chain,
@@ -152,16 +150,14 @@ pub(crate) fn make_values<D: Disk>(
     children: &[Tile],
     bytes: &mut [u8],
     scratch: &mut [i16],
-    window_bytes: &mut [u8],
-    window_posts: &mut [i16],
     frame: &mut [i16],
     disk: &mut D,
 ) -> Result<(), StepError>
     requires children { AreChildren tile.now children.now }
     requires bytes { 2097338 ≤ length bytes.old }
     requires scratch { 1048576 ≤ length scratch.old }
-    requires room { HasRoom plan.now.record.heads tile.now (length window_posts.old) }
-    requires window_bytes { 2 * length window_posts.old ≤ length window_bytes.old }
+    requires room { HasRoom plan.now.record.heads tile.now (length scratch.old) }
+    requires row_bytes { 2 * length scratch.old ≤ length bytes.old }
     requires frame { length frame.old ≡ tile_side tile.now * tile_side tile.now }
     ensures values { D.tells → (ss x : List given.Source)
         → HasFiles plan.now chain.now.records (D.state disk.old).present ss x tile.now children.now
@@ -176,18 +172,9 @@ pub(crate) fn make_values<D: Disk>(
         (family_needs tile.now.family plan.now chain.now.records tile.now children.now) }
 {
     match tile.family {
-        Family::Elev | Family::Mat => make_own(
-            plan,
-            chain,
-            tile,
-            children,
-            bytes,
-            scratch,
-            window_bytes,
-            window_posts,
-            frame,
-            disk,
-        ),
+        Family::Elev | Family::Mat => {
+            make_own(plan, chain, tile, children, bytes, scratch, frame, disk)
+        }
         Family::Low | Family::High => {
             make_extreme(plan, chain, tile, children, bytes, scratch, frame, disk)
         }

@@ -5,7 +5,7 @@ ghost use Rattle.cdb_grid.specs.Tiles.{tile_side};
 ghost use Rattle.cdb_source.specs.Texts.{source_text};
 ghost use Rattle.cdb_source.specs.declared.head.SourceHead as heads;
 ghost use Rattle.cdb_source.specs.declared.source.Source as given;
-ghost use Rattle.cdb_model.specs.Machine.{heads_of};
+ghost use Rattle.cdb_model.specs.Publications.{heads_of};
 ghost use Rattle.cdb_model.specs.Names.{source_path};
 ghost use Rattle.cdb_files.specs.Moments.{Rests};
 ghost use Rattle.cdb_cut.specs.OneTile.{IsPaintedBy};

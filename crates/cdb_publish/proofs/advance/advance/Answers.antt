@@ -1,5 +1,5 @@
 use Rattle.std.specs.Prelude.{vec_len}
-use Rattle.std.proofs.Common.{◌≡◌, ◌+◌, ◌≤◌, ap, ◌∙◌, length, None, arith, rules, sym}
+use Rattle.std.proofs.Common.{◌+◌, ap}
 use Rattle.cdb_publish.specs.Needs.{TellsSizes}
 use Rattle.cdb_publish.proofs.ReadBounds.{reads_fall, reads_within}
 use Rattle.cdb_publish.proofs.Underways.{rest_sources}

@@ -1,4 +1,4 @@
-use Rattle.std.proofs.Common.{◌≡◌, ℕ, ◌+◌, ◌-◌, ◌≤◌, length, ap, subst, arith}
+use Rattle.std.proofs.Common.{◌≡◌, ℕ, ◌+◌, ◌-◌, length, ap, subst, arith}
 use Rattle.cdb_crash.specs.Plan.{IsMidAfter}
 use Rattle.cdb_publish.specs.Reads.{StepNeeds, SizesTold}
 use Rattle.cdb_publish.proofs.Sizes.{no_needs}

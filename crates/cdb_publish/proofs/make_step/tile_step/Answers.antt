@@ -1,6 +1,6 @@
-use Rattle.std.proofs.Common.{◌≡◌, ◌<◌, ◌++◌, ◌∷◌, [], ◌∙◌, Some, Err, refl, sym, ap, length, take, rules, get_or, subst, ℕ, ◌+◌, ◌≤◌, arith}
+use Rattle.std.proofs.Common.{◌≡◌, ◌++◌, ◌∷◌, [], ◌∙◌, Some, Err, refl, sym, ap, length, take, rules, subst, ℕ, arith}
 use Rattle.std.specs.Prelude.{slice_get}
-use Rattle.cdb_model.specs.Machine.{sources_of}
+use Rattle.cdb_model.specs.Publications.{sources_of}
 use Rattle.cdb_model.specs.Names.{path}
 use Rattle.cdb_model.specs.TileFile.{tile_bytes}
 use Rattle.cdb_files.specs.Whole.{after_write}
@@ -70,25 +70,22 @@ returns-in-Err-write_whole-clause-sizes g c =
 pub make_tile-requires-clause-room : goal.make_tile-requires-clause-room
 make_tile-requires-clause-room g c t at =
     let R : ℕ → Type 0 = λ n. HasRoom c.args.plan.now.record.heads t n in
-    subst R (sym (ap length c.as_mut_slice-4.ensures.value)) (c.requires.ready.room c.args.number t at)
+    subst R (sym (ap length c.as_mut_slice-2.ensures.value)) (c.requires.ready.room c.args.number t at)
 
 pub returns-in-Err-clause-ready : goal.returns-in-Err-clause-ready
 returns-in-Err-clause-ready g c =
-    (ready_after c.args.plan.now c.args.frames.now c.make_tile.new.bytes c.make_tile.new.frame c.make_tile.new.scratch c.make_tile.new.window_bytes c.make_tile.new.window_posts c.requires.ready
-    (c.make_tile.auto.bytes ∙ ap length c.as_mut_slice.ensures.value) (c.make_tile.auto.frame ∙ ap length c.as_mut_slice-5.ensures.value)
-    (c.make_tile.auto.scratch ∙ ap length c.as_mut_slice-2.ensures.value) (c.make_tile.auto.window_bytes ∙ ap length c.as_mut_slice-3.ensures.value)
-    (c.make_tile.auto.window_posts ∙ ap length c.as_mut_slice-4.ensures.value))
+    ready_after c.args.plan.now c.args.frames.now c.make_tile.new.bytes c.make_tile.new.frame c.make_tile.new.scratch c.requires.ready
+    (c.make_tile.auto.bytes ∙ ap length c.as_mut_slice.ensures.value) (c.make_tile.auto.frame ∙ ap length c.as_mut_slice-3.ensures.value)
+    (c.make_tile.auto.scratch ∙ ap length c.as_mut_slice-2.ensures.value)
 
 pub returns-in-Ok-write_whole-clause-ready : goal.returns-in-Ok-write_whole-clause-ready
 returns-in-Ok-write_whole-clause-ready g c =
-    (ready_after c.args.plan.now c.args.frames.now c.make_tile.new.bytes c.make_tile.new.frame c.make_tile.new.scratch c.make_tile.new.window_bytes c.make_tile.new.window_posts c.requires.ready
-    (c.make_tile.auto.bytes ∙ ap length c.as_mut_slice.ensures.value) (c.make_tile.auto.frame ∙ ap length c.as_mut_slice-5.ensures.value)
-    (c.make_tile.auto.scratch ∙ ap length c.as_mut_slice-2.ensures.value) (c.make_tile.auto.window_bytes ∙ ap length c.as_mut_slice-3.ensures.value)
-    (c.make_tile.auto.window_posts ∙ ap length c.as_mut_slice-4.ensures.value))
+    ready_after c.args.plan.now c.args.frames.now c.make_tile.new.bytes c.make_tile.new.frame c.make_tile.new.scratch c.requires.ready
+    (c.make_tile.auto.bytes ∙ ap length c.as_mut_slice.ensures.value) (c.make_tile.auto.frame ∙ ap length c.as_mut_slice-3.ensures.value)
+    (c.make_tile.auto.scratch ∙ ap length c.as_mut_slice-2.ensures.value)
 
 pub returns-in-Err-write_whole-clause-ready : goal.returns-in-Err-write_whole-clause-ready
 returns-in-Err-write_whole-clause-ready g c =
-    (ready_after c.args.plan.now c.args.frames.now c.make_tile.new.bytes c.make_tile.new.frame c.make_tile.new.scratch c.make_tile.new.window_bytes c.make_tile.new.window_posts c.requires.ready
-    (c.make_tile.auto.bytes ∙ ap length c.as_mut_slice.ensures.value) (c.make_tile.auto.frame ∙ ap length c.as_mut_slice-5.ensures.value)
-    (c.make_tile.auto.scratch ∙ ap length c.as_mut_slice-2.ensures.value) (c.make_tile.auto.window_bytes ∙ ap length c.as_mut_slice-3.ensures.value)
-    (c.make_tile.auto.window_posts ∙ ap length c.as_mut_slice-4.ensures.value))
+    ready_after c.args.plan.now c.args.frames.now c.make_tile.new.bytes c.make_tile.new.frame c.make_tile.new.scratch c.requires.ready
+    (c.make_tile.auto.bytes ∙ ap length c.as_mut_slice.ensures.value) (c.make_tile.auto.frame ∙ ap length c.as_mut_slice-3.ensures.value)
+    (c.make_tile.auto.scratch ∙ ap length c.as_mut_slice-2.ensures.value)

@@ -1,12 +1,12 @@
-use Rattle.std.proofs.Common.{◌≡◌, ◌≤◌, ◌+◌, ◌∙◌, sym, ap, subst, List, length, map, arith, rules}
+use Rattle.std.proofs.Common.{◌≡◌, ◌+◌, ◌∙◌, sym, ap, subst, List, length, map, arith, rules}
 use Rattle.cdb_source.specs.Reached.{IsTouched}
 use Rattle.cdb_source.specs.declared.head.SourceHead.{SourceHead}
 use Rattle.cdb_grid.specs.declared.tile.Tile.{Tile}
-use Rattle.cdb_model.specs.Machine.{heads_of}
+use Rattle.cdb_model.specs.Publications.{heads_of}
 use Rattle.cdb_model.specs.Maps.{folder_above}
 use Rattle.cdb_model.specs.Records.{record_text}
 use Rattle.cdb_crash.specs.Plan.{each_once}
-use Rattle.cdb_publish.specs.Planning.{IsLight, MakesEntries, IsAccepted, paths_in}
+use Rattle.cdb_publish.specs.Planning.{IsLight, IsAccepted, paths_in}
 use Rattle.std.proofs.lemmas.List.{length-map}
 use Rattle.cdb_publish.proofs.EntryLists.{entries_few}
 use Rattle.cdb_publish.proofs.PlanBegins.{folders_are, one_publication}

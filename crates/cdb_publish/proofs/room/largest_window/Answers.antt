@@ -1,4 +1,4 @@
-use Rattle.std.proofs.Common.{arith, rules}
+use Rattle.std.proofs.Common.{arith}
 use Rattle.cdb_crash.proofs.PlanNumbers.{got}
 use Rattle.cdb_publish.proofs.RoomLaws.{one_tile, all_tiles}
 use Rattle.cdb_publish.proofs.room.largest_window.Goals as goal

@@ -1,4 +1,4 @@
-use Rattle.std.proofs.Common.{arith, rules}
+use Rattle.std.proofs.Common.{arith}
 use Rattle.cdb_crash.proofs.PlanNumbers.{got}
 use Rattle.cdb_publish.proofs.RoomLaws.{one_head, all_heads}
 use Rattle.cdb_publish.proofs.room.tile_room.Goals as goal

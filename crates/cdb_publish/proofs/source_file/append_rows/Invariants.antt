@@ -1,4 +1,4 @@
-use Rattle.std.proofs.Common.{◌≡◌, ℕ, ◌+◌, ◌-◌, ◌*◌, ◌≤◌, List, ◌++◌, take, length}
+use Rattle.std.proofs.Common.{◌≡◌, ℕ, ◌-◌, ◌*◌, ◌≤◌, List, ◌++◌, take}
 use Rattle.cdb_source.specs.Texts.{posts_text}
 use Rattle.cdb_model.specs.Maps.{IsThere}
 use Rattle.cdb_files.specs.Disk.{State}

@@ -1,8 +1,8 @@
-use Rattle.std.proofs.Common.{◌≡◌, ℕ, List, [], ◌++◌, ◌∙◌, sym, ap, subst}
-use Rattle.cdb_source.specs.Texts.{front_text, posts_text, source_text}
+use Rattle.std.proofs.Common.{[], ◌++◌, ◌∙◌, sym, ap, subst}
+use Rattle.cdb_source.specs.Texts.{posts_text}
 use Rattle.cdb_model.specs.Maps.{IsThere, folder_above}
 use Rattle.cdb_files.specs.Disk.{State, after_append, after_sync_file, after_make_dir}
-use Rattle.cdb_files.specs.Whole.{after_fill, after_pieces, after_write}
+use Rattle.cdb_files.specs.Whole.{after_fill, after_write}
 use Rattle.cdb_files.proofs.StateLaws.{pieces-there, append-pieces, sync_file-pieces, append-only, sync_file-only, fails_append-only, equal-only, same-only}
 use Rattle.cdb_files.proofs.WholeLaws.{onward, onward_ok, further}
 use Rattle.cdb_publish.proofs.source_file.write_source.Goals as goal

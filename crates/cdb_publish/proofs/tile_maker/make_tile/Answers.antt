@@ -4,7 +4,7 @@ use Rattle.cdb_publish.specs.Folding.{AreChildren}
 use Rattle.cdb_publish.specs.TileFiles.{family_needs, TileNeeds}
 use Rattle.cdb_publish.specs.Needs.{AreSized, TellsError}
 use Rattle.std.proofs.Common.{◌≤◌}
-use Rattle.cdb_model.specs.Machine.{sources_of}
+use Rattle.cdb_model.specs.Publications.{sources_of}
 use Rattle.cdb_model.specs.TileFile.{tile_bytes}
 use Rattle.std.proofs.Common.{drop}
 use Rattle.std.proofs.lemmas.List.{length-take-le}

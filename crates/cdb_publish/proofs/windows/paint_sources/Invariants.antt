@@ -1,6 +1,6 @@
 use Rattle.std.proofs.Common.{◌≡◌, ◌+◌, ◌-◌, ◌≤◌, List, [], length, drop}
 use Rattle.cdb_source.specs.declared.source.Source.{Source}
-use Rattle.cdb_model.specs.Machine.{heads_of}
+use Rattle.cdb_model.specs.Publications.{heads_of}
 use Rattle.cdb_files.specs.Moments.{Rests}
 use Rattle.cdb_cut.specs.OneTile.{IsPaintedBy}
 use Rattle.cdb_publish.specs.Needs.{AreSized}
