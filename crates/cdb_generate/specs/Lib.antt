@@ -1,0 +1,4 @@
+pub mod Generator
+pub mod Sums
+pub mod Generated
+pub mod Laws
