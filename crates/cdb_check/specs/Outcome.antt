@@ -1,0 +1,79 @@
+-- What a check of files answers.
+use Rattle.std.specs.Prelude.{◌≡◌, ◌≢◌, ℕ, ◌≤◌, List, length, Some, Result, Ok, Err}
+use Rattle.cdb_source.specs.declared.source.Source.{Source}
+use Rattle.cdb_source.specs.declared.head.SourceHead.{SourceHead}
+use Rattle.cdb_source.specs.Texts.{source_text}
+use Rattle.cdb_files.specs.Disk.{State}
+use Rattle.cdb_files.specs.Moments.{Rests}
+use Rattle.cdb_model.specs.Causes.{Rose}
+use Rattle.cdb_model.specs.Maps.{Text, Content, FileMap, size_of}
+use Rattle.cdb_manifest.specs.declared.record_.Record.{Record}
+use Rattle.cdb_check.specs.Expected.{SourceFile, Expected, AllAsExpected, FirstOther, Spells, expected_files}
+use Rattle.cdb_check.specs.declared.outcome.Agreed.{Agreed}
+use Rattle.cdb_check.specs.declared.outcome.CheckError.{CheckError}
+use Rattle.cdb_check.specs.declared.outcome.CheckError.TheVariants.{Memory, Fault, Differs}
+
+-- one file was looked at: it is what it must be, or it isn't and its path is told
+abbrev pub Judges : {T : Type 0} → Type 0 → Text → Result T CheckError → Type 0
+Judges Met q (Ok _) = Met
+Judges Met q (Err Memory) = Unit {0}
+Judges Met q (Err Fault) = Unit {0}
+Judges Met q (Err (Differs path)) = (Met → ⊥) × (path.bytes ≡ q)
+
+-- files were looked at in turn: all are what they must be, or the path of the first that isn't is told
+abbrev pub Finds : {T : Type 0} → FileMap → List Expected → Result T CheckError → Type 0
+Finds m list (Ok _) = AllAsExpected m list
+Finds m list (Err Memory) = Unit {0}
+Finds m list (Err Fault) = Unit {0}
+Finds m list (Err (Differs path)) = FirstOther m list path.bytes
+
+-- a source file gave a source, or none that it should give
+abbrev pub GivesFile : FileMap → SourceFile → Result Source CheckError → Type 0
+GivesFile m file (Ok s) = Spells m file s
+GivesFile m file (Err Memory) = Unit {0}
+GivesFile m file (Err Fault) = Unit {0}
+GivesFile m file (Err (Differs path)) = ((s : Source) → Spells m file s → ⊥)
+
+-- ---- a disk that is only read
+
+-- nothing was written: the disk is as it was, at each moment, and no call was forgotten by its count of faults
+pub record Looks {D : Type 0} (clock : D → ℕ) (since : D → ℕ → FileMap → Type 0) (holds : D → State) (faults : D → ℕ)
+    (old new : D) : Type 0 where
+  pub state : holds new ≡ holds old
+  pub time : Rests (clock old) (clock new) (since old) (since new)
+  pub later : faults old ≤ faults new
+
+-- a fault of the disk is told only where its count rose
+abbrev pub IsCaused : {T : Type 0} → ℕ → ℕ → Result T CheckError → Type 0
+IsCaused before now (Err Fault) = Rose before now
+IsCaused before now _ = Unit {0}
+
+-- bytes give a source with a head, or there is none whose file they are
+abbrev pub GivesSource : List ℕ → SourceHead → Result Source CheckError → Type 0
+GivesSource bytes head (Ok s) = (bytes ≡ source_text s) × (s.head ≡ head)
+GivesSource bytes head (Err Memory) = Unit {0}
+GivesSource bytes head (Err Fault) = Unit {0}
+GivesSource bytes head (Err (Differs path)) = (s : Source) → bytes ≡ source_text s → s.head ≡ head → ⊥
+
+-- memory ran out, or this path is told
+abbrev pub IsAbout : Text → CheckError → Type 0
+IsAbout q Memory = Unit {0}
+IsAbout q Fault = ⊥
+IsAbout q (Differs path) = path.bytes ≡ q
+
+-- a file was not read: where it differs, its size is another
+abbrev pub Unread : Content → ℕ → CheckError → Type 0
+Unread content len Memory = Unit {0}
+Unread content len Fault = Unit {0}
+Unread content len (Differs path) = size_of content ≢ Some len
+
+-- the path that is told, if one is
+abbrev pub IsAt : Text → CheckError → Type 0
+IsAt q Memory = Unit {0}
+IsAt q Fault = Unit {0}
+IsAt q (Differs path) = path.bytes ≡ q
+
+-- so many versions, and so many files that must be there
+pub record Tells (records : List Record) (agreed : Agreed) : Type 0 where
+  pub versions : agreed.versions ≡ length records
+  pub files : agreed.files ≡ length (expected_files records)

@@ -1,0 +1,15 @@
+//! The check of a store: each record, source file and tile against what the records and the source
+//! files give.
+#![tactic(auto)]
+
+mod compare;
+mod files;
+pub mod laws;
+mod outcome;
+mod room;
+#[cfg(test)]
+mod tests;
+mod versions;
+
+pub use outcome::{Agreed, CheckError};
+pub use versions::check;
