@@ -14,7 +14,7 @@ pub enum Mode {
     Run,
     /// It publishes sources that it makes.
     Generate,
-    /// It compares two stores.
+    /// It holds the files of a store against its records and sources.
     Check,
 }
 
