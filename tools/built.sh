@@ -11,12 +11,16 @@ need() {
 # built NAME FOLDER: builds the program crates/NAME with `rt`, compares its stored run, writes what is
 # wrong to the standard error, and prints the path of the built program. FOLDER takes what it wrote.
 built() {
-    local crate program
-    crate="$(dirname "${BASH_SOURCE[0]}")/../crates/$1"
-    cd "$crate" || return 2
-    rt run <stdin >"$2/worked" 2>"$2/log" || { cat "$2/log" >&2; return 2; }
-    cmp -s "$2/worked" stdout || { echo "$1 doesn't write its stored output" >&2; return 1; }
-    program=$(find -L "$PWD/out" -type f -perm -u+x -newer stdin -name "$1*" | head -n 1)
-    [ -n "$program" ] || { echo "the built program $1 isn't found" >&2; return 2; }
+    local crate program words=()
+    crate="$(cd "$(dirname "${BASH_SOURCE[0]}")/../crates/$1" && pwd)" || return 2
+    program="$crate/out/$1"
+    cd "$crate" && rt check >"$2/log" 2>&1 || { cat "$2/log" >&2; return 2; }
+    # `rt run` builds it. It stands in its crate's folder then, and these words keep it from its work.
+    rt run -- --build-alone </dev/null >"$2/log" 2>&1
+    [ -x "$program" ] || { cat "$2/log" >&2; return 2; }
+    [ ! -f args ] || mapfile -t words <args
+    mkdir "$2/stored" && cd "$2/stored" || return 2
+    "$program" "${words[@]}" <"$crate/stdin" >"$2/worked"
+    cmp -s "$2/worked" "$crate/stdout" || { echo "$1 doesn't write its stored output" >&2; return 1; }
     echo "$program"
 }

@@ -1,8 +1,8 @@
 #!/usr/bin/env bash
 # Runs the program over a script of ten thousand lines made from a seed (random bytes, lines that are half
-# right, right ones, no `quit`) and counts its answers; then times publications of many tiles against
-# publications of few, and the tiles of a level. Needs `rt`, which builds the program crates/cdb_cli, and
-# python3. The seed is the first argument, or 1.
+# right, right ones, no `quit`) and counts its answers; then times a publication of many tiles against
+# publications of few, and the tiles of a level, each over a new store. Needs `rt`, which builds the program
+# crates/cdb_cli, and python3. The seed is the first argument, or 1.
 set -u
 . "$(dirname "$0")/built.sh" || exit 2
 need python3
@@ -12,13 +12,15 @@ trap 'rm -rf "$folder"' EXIT
 
 program=$(built cdb_cli "$folder") || exit
 
-python3 - "$program" "${1:-1}" <<'PYTHON'
+python3 - "$program" "$folder" "${1:-1}" <<'PYTHON'
+import os
 import random
+import shutil
 import subprocess
 import sys
 import time
 
-program, seed = sys.argv[1], int(sys.argv[2])
+program, folder, seed = sys.argv[1], sys.argv[2], int(sys.argv[3])
 random.seed(seed)
 
 NAMES = [
@@ -62,23 +64,35 @@ def line():
     return b"quit " if made == b"quit" else made
 
 
+def new_store():
+    store = os.path.join(folder, "store")
+    shutil.rmtree(store, ignore_errors=True)
+    os.makedirs(store + "/in")
+    return store
+
+
+def run(script):
+    return subprocess.run([program, "--background", "0"], input=script, cwd=new_store(), capture_output=True)
+
+
 lines = [line() for _ in range(10_000)]
-run = subprocess.run([program], input=b"\n".join(lines) + b"\n", capture_output=True)
-answers, at, out = 0, 0, run.stdout
+made = run(b"\n".join(lines) + b"\n")
+answers, at, out = 0, 0, made.stdout
 while at < len(out):
     end = out.index(b"\n", at)
     words = out[at:end].split(b" ")
     at = end + 1 + (int(words[1]) if words[0] == b"tile" else 0)
     answers += 1
-wanted = sum(1 for made in lines if made)
-print(f"seed {seed}: status {run.returncode}, {answers} answers to {wanted} lines that aren't blank")
-if run.returncode != 0 or answers != wanted:
+wanted = sum(1 for line in lines if line)
+print(f"seed {seed}: status {made.returncode}, {answers} answers to {wanted} lines that aren't blank")
+if made.returncode != 0 or answers != wanted:
     sys.exit(1)
 
 
 def seconds(script):
     begin = time.time()
-    subprocess.run([program], input=script, capture_output=True, check=True)
+    if run(script).returncode != 0:
+        sys.exit(1)
     return time.time() - begin
 
 
@@ -87,13 +101,13 @@ def least(script):
 
 
 publish = b"publish\nstep all\n"
-many = b"inline elev 11 46 7 1 1 1 2 5 6\n" + publish
+posts = b" ".join(b"%d" % k for k in range(64))
+many = b"inline elev -10 -14 -14 4 4 8 8 %s\n" % posts + publish
 few = b"inline elev -10 46 7 1 1 1 1 5\n" + publish
 empty = least(b"")
-a, b = (least(many * 100) - empty) / (100 * 12381), (least(few * 4000) - empty) / (4000 * 3)
-print(f"a publication of 12,381 tiles: {a * 1e6:.3f} microseconds a tile; of 3 tiles: {b * 1e6:.3f}; ratio {a / b:.2f}")
+a, b = (least(many) - empty) / 2523, (least(few * 100) - empty) / (100 * 3)
+print(f"a publication of 2,523 tiles: {a * 1e6:.0f} microseconds a tile; of 3 tiles: {b * 1e6:.0f}; ratio {a / b:.2f}")
 
-posts = b" ".join(b"%d" % k for k in range(64))
 level0 = b"inline elev 0 46 7 1/1024 1/1024 8 8 %s\npublish\nstep all\nopen\n" % posts
 tile = least(level0 + b"tile 1 N46E007_D001_S001_T001_L00_U0_R0.tif\n") - least(level0)
 print(f"a tile of level 0 over one source of 64 posts: {tile:.3f} seconds")

@@ -2,18 +2,19 @@
 # Checks what the program does to real folders. Its file calls are counted; the files that it leaves are
 # compared with the listing that docs/FORMATS.md gives, and its tiles are read by tiffinfo and GDAL. Then it
 # is stopped before and after each system call of a publication and of an opening, and each of these calls
-# fails once; each time the store must open again, at a version that was published. The one argument is
-# the program's path. Needs python3; what needs strace, tiffinfo or gdal_translate is skipped where that
-# is missing.
+# fails once; each time the store must open again, at a version that was published. Needs `rt`, which
+# builds the program crates/cdb_cli, and python3; what needs strace, tiffinfo or gdal_translate is skipped
+# where that is missing.
 set -u
 . "$(dirname "$0")/built.sh" || exit 2
-[ $# = 1 ] || { echo "usage: check_store.sh PROGRAM" >&2; exit 2; }
 need python3
 
 folder=$(mktemp -d)
 trap 'rm -rf "$folder"' EXIT
 
-python3 - "$(realpath "$1")" "$folder" <<'PYTHON'
+program=$(built cdb_cli "$folder") || exit
+
+python3 - "$program" "$folder" <<'PYTHON'
 import collections
 import os
 import re

@@ -1,13 +1,7 @@
-pub mod PieceLaws
 pub mod RowLaws
 pub mod HeadLaws
 pub mod FileLaws
-pub mod MaterialPosts
-pub mod RasterLaws
 pub mod SpelledLaws
-pub mod TileAnswers
-pub mod OneSource
-pub mod AnswerLaws
 pub mod NoStep
 pub mod StayLaws
 pub mod StepCounts

@@ -1,11 +1,9 @@
 -- A step that is refused.
-use Rattle.std.proofs.Common.{◌≡◌, ℕ, ◌+◌, ◌≤◌, List, [], ◌∷◌, Option, None, Some, IsSome, Bool, true, false, refl, ap, sym, ◌∙◌, subst, arith}
-use Rattle.std.specs.Option.{option_map, is_some}
+use Rattle.std.proofs.Common.{◌≡◌, Option, None, Some, IsSome, true, refl}
+use Rattle.std.specs.Option.{is_some}
 use Rattle.cdb_model.specs.Events as machine
-use Rattle.cdb_model.specs.KnownStore.{State, Going}
-use Rattle.cdb_model.specs.Publications.{Publication}
-use Rattle.cdb_model.specs.Stores.{Which, kind_of, known_store, any_store}
-use Rattle.cdb_model.specs.Transitions.{StateIn, GoingIn, IsIdleIn, IsBusyIn}
+use Rattle.cdb_model.specs.Stores.{Which, kind_of}
+use Rattle.cdb_model.specs.Transitions.{StateIn, IsIdleIn, IsBusyIn}
 use Rattle.cdb_engine.specs.Held.{Held}
 use Rattle.cdb_engine.specs.StoreAnswers.{TriesIn}
 use Rattle.cdb_engine.specs.Stays.{Shows}

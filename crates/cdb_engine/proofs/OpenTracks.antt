@@ -1,5 +1,5 @@
 -- What opening makes of a disk, and what an engine that was just opened tracks.
-use Rattle.std.proofs.Common.{◌≡◌, ℕ, ◌+◌, ◌≤◌, ◌<◌, ◌⊎◌, inl, inr, List, [], ◌∷◌, ◌++◌, length, Option, None, Some, Result, Ok, Err, refl, ap, sym, ◌∙◌, subst, arith}
+use Rattle.std.proofs.Common.{◌≡◌, ℕ, inl, inr, List, [], ◌∷◌, ◌++◌, length, None, Ok, Err, refl, ap, sym, subst, arith}
 use Rattle.cdb_source.specs.declared.source.Source.{Source}
 use Rattle.cdb_model.specs.Images.{StandsForOne, IsNext}
 use Rattle.cdb_model.specs.KnownStore.{start_at}
@@ -12,7 +12,7 @@ use Rattle.cdb_files.specs.Disk as disk
 use Rattle.cdb_files.specs.Disk.{IsImage}
 use Rattle.cdb_files.specs.Moments.{AddsOnly, Rests}
 use Rattle.cdb_crash.specs.Crash.{IsWhole, IsClean, IsEither, IsFaulted}
-use Rattle.cdb_chain.specs.Opening.{IsOpenedFrom, IsFirstBad}
+use Rattle.cdb_chain.specs.Opening.{IsOpenedFrom}
 use Rattle.cdb_chain.specs.Publications.{AreRecords, OpensTo}
 use Rattle.cdb_chain.specs.Versions.{Versions}
 use Rattle.cdb_chain.specs.declared.open_error.OpenError.{OpenError}
@@ -21,10 +21,10 @@ use Rattle.cdb_recover.specs.Answers.{IsAnswer, IsRecovered, KeepsStore}
 use Rattle.cdb_recover.specs.declared.recover_error.RecoverError.{RecoverError}
 use Rattle.cdb_recover.specs.declared.recover_error.RecoverError.TheVariants as recovery
 use Rattle.cdb_sessions.specs.Sessions.{Sessions, starts_empty}
-use Rattle.cdb_engine.specs.Held.{Held, held_of, IsEngine}
+use Rattle.cdb_engine.specs.Held.{held_of, IsEngine}
 use Rattle.cdb_engine.specs.Stays.{bare_of}
-use Rattle.cdb_engine.specs.Store.{IsLeft, IsStore, IsNoStore, TellsNoStore, IsFound, open_error_of}
-use Rattle.cdb_engine.specs.Tracks.{Works, Tracks}
+use Rattle.cdb_engine.specs.Store.{IsStore, IsNoStore, TellsNoStore, IsFound, open_error_of}
+use Rattle.cdb_engine.specs.Tracks.{Tracks}
 use Rattle.cdb_engine.proofs.StepTracks.{adds_map}
 
 -- ---- recovery

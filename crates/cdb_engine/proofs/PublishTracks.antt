@@ -1,19 +1,18 @@
 -- What the beginning of a publication makes of what an engine tracks.
-use Rattle.std.proofs.Common.{◌≡◌, ◌≢◌, ℕ, zero, suc, ◌+◌, ◌-◌, ◌<◌, ◌≤◌, ◌⊎◌, inl, inr, List, [], ◌∷◌, ◌++◌, length, Option, None, Some, IsSome, IfSome, Bool, true, false, Result, Ok, Err, OnOk, refl, ap, sym, ◌∙◌, append_assoc, append-nil, subst, arith}
+use Rattle.std.proofs.Common.{◌≡◌, ◌≢◌, ℕ, ◌+◌, ◌-◌, ◌<◌, ◌≤◌, inl, inr, List, [], ◌∷◌, ◌++◌, length, Option, None, Some, false, Result, Ok, Err, OnOk, refl, ap, sym, ◌∙◌, append_assoc, append-nil, subst, arith}
 use Rattle.std.specs.Result.{is_err}
-use Rattle.cdb_grid.specs.declared.tile.Tile.{Tile}
 use Rattle.cdb_manifest.specs.declared.record_.Record.{Record}
 use Rattle.cdb_source.specs.Reached.{IsTouched, IsLoad}
 use Rattle.cdb_source.specs.declared.source.Source.{Source}
-use Rattle.cdb_model.specs.Begun.{unfinished, HasBegun}
+use Rattle.cdb_model.specs.Begun.{unfinished}
 use Rattle.cdb_model.specs.Events as machine
-use Rattle.cdb_model.specs.Images.{Base, StandsFrom, StandsSince}
+use Rattle.cdb_model.specs.Images.{Base, StandsSince}
 use Rattle.cdb_model.specs.KnownStore.{State, Going}
 use Rattle.cdb_model.specs.Maps.{FileMap}
 use Rattle.cdb_model.specs.Publications.{Publication, heads_of, step_count}
 use Rattle.cdb_model.specs.Stands.{Stands}
 use Rattle.cdb_model.specs.Stores.{Kind, Which, known, any, kind_of, known_store, any_store}
-use Rattle.cdb_model.specs.Transitions.{StateIn, GoingIn, IsIdleIn, IsPendingIn, IsPlannedIn, BegunIn, BeginsIn}
+use Rattle.cdb_model.specs.Transitions.{StateIn, IsIdleIn, IsPendingIn, IsPlannedIn, BegunIn, BeginsIn}
 use Rattle.cdb_model.proofs.OneLists.{one_touched}
 use Rattle.cdb_files.specs.Disk as disk
 use Rattle.cdb_crash.specs.Crash.{IsClean}
@@ -26,11 +25,10 @@ use Rattle.cdb_publish.specs.Planning.{IsLight, MakesEntries, IsAccepted, Refuse
 use Rattle.cdb_publish.specs.declared.errors.PlanError.{PlanError}
 use Rattle.cdb_publish.specs.declared.errors.PlanError.TheVariants as plan
 use Rattle.cdb_publish.specs.declared.publication.Publication as publish
-use Rattle.cdb_publish.specs.declared.work.Work.{Work}
-use Rattle.cdb_engine.specs.Held.{Held, CanStep, IsEngine}
+use Rattle.cdb_engine.specs.Held.{Held, CanStep}
 use Rattle.cdb_engine.specs.StoreAnswers.{publish_refusal, refusal_of}
-use Rattle.cdb_engine.specs.Stays.{bare_of, going_of, Stays, Shows}
-use Rattle.cdb_engine.specs.Tracks.{IsGoing, Works, Tracks, Origin, Follows, Leads}
+use Rattle.cdb_engine.specs.Stays.{bare_of, Stays}
+use Rattle.cdb_engine.specs.Tracks.{Works, Tracks, Origin, Follows, Leads}
 use Rattle.cdb_engine.proofs.NoStep.{idle_as}
 use Rattle.cdb_engine.proofs.StayLaws.{stays_shows}
 use Rattle.cdb_engine.proofs.StepCounts.{steps_are, entries_are}

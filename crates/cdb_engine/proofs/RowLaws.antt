@@ -1,13 +1,20 @@
 -- Rows that come one after another, and the posts that they become.
-use Rattle.std.proofs.Common.{◌≡◌, ℕ, zero, suc, ◌+◌, ◌<◌, ◌≤◌, inl, inr, ℤ, Bool, true, false, if◌then◌else◌, List, ◌++◌, length, map, get_or, All, refl, sym, ◌∙◌, ap, subst, arith, add-one, Result, Ok, Err, OnErr}
+use Rattle.std.proofs.Common.{◌≡◌, ℕ, zero, suc, ◌+◌, ◌<◌, ◌≤◌, inl, inr, ℤ, Bool, true, false, if◌then◌else◌, List, ◌++◌, length, map, get_or, All, refl, sym, ◌∙◌, ap, subst, arith, add-one, slice_get, Some, EachIndex, Result, Ok, Err, OnErr}
+use Rattle.std.specs.List.{range_with_len}
 use Rattle.std.specs.Ordering.{int_eq}
 use Rattle.std.proofs.Math.Nat.{eq-or-lt_of_le}
 use Rattle.std.proofs.lemmas.Bool.Decides.{Decides-int_eq}
-use Rattle.std.proofs.lemmas.List.{length-append, length-map, get_or-map, get_or_append_left, get_or-append-add, map-append}
+use Rattle.std.proofs.lemmas.List.{length-append, length-map, get_or-map, get_or_append_left, get_or-append-add, map-append, same_lists}
+use Rattle.std.proofs.lemmas.List.FromFn.{length-map-range_with_len, get_or-map-range_with_len}
+use Rattle.std.proofs.lemmas.Option.{get_or_from_slice_get}
 use Rattle.cdb_source.specs.declared.kind.Kind.{Kind}
 use Rattle.cdb_source.specs.declared.head.SourceHead.{SourceHead}
 use Rattle.cdb_source.specs.Made.{Making}
 use Rattle.cdb_source.specs.Posts.{IsAllowed, IsPost, post_of, none_of}
+use Rattle.cdb_tiff_base.specs.Numbers.{Bytes}
+use Rattle.cdb_tiff_base.specs.Pixels.{pixel}
+use Rattle.cdb_tiff_base.specs.Strips.{image_width}
+use Rattle.cdb_model.specs.Spelled.{row_of_pixels}
 use Rattle.cdb_model.specs.Text.{last_first}
 use Rattle.cdb_engine.specs.Words.{HasRows}
 
@@ -53,3 +60,17 @@ one_more_row head v row k old new r came same due posts is = record {
       ∙ sym (map-append (post_of head.kind v) (row k) (last_first k row))
       ∙ ap (λ n. map (post_of head.kind v) (last_first n row)) (sym (add-one k));
 }
+
+-- ---- the rows of an image
+
+-- a list by the number at each index
+by_index : (f : ℕ → ℤ) (n : ℕ) (xs : List ℤ) → length xs ≡ n → ((k : ℕ) (d : ℤ) → k < n → get_or xs k d ≡ f k) → xs ≡ map f (range_with_len 0 n)
+by_index f n xs len each =
+    same_lists xs (map f (range_with_len 0 n)) (len ∙ sym (length-map-range_with_len f 0 n))
+    (λ k d h. let below : k < n = omega (arith, len) in each k d below ∙ sym (get_or-map-range_with_len f 0 n k k d below (omega arith)))
+
+-- a row of samples that were read
+pub row_read : (bytes : Bytes) (r : ℕ) (row : List ℤ) → length row ≡ image_width bytes → EachIndex row (λ c. slice_get row c ≡ Some (pixel bytes r c)) → row ≡ row_of_pixels bytes r
+row_read bytes r row len each =
+    by_index (λ c. pixel bytes r c) (image_width bytes) row len
+    (λ k d h. get_or_from_slice_get row k (pixel bytes r k) d (each k (omega (arith, len))))

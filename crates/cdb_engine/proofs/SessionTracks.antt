@@ -1,13 +1,12 @@
 -- What calls without a disk make of what an engine and a state share.
-use Rattle.std.proofs.Common.{◌≡◌, ℕ, ◌+◌, ◌≤◌, ◌<◌, List, [], ◌∷◌, ◌++◌, length, Option, None, Some, IsSome, Bool, true, false, Result, Ok, Err, refl, ap, sym, ◌∙◌, subst, arith}
-use Rattle.std.specs.Option.{is_some}
+use Rattle.std.proofs.Common.{◌≡◌, ℕ, ◌+◌, ◌≤◌, ◌<◌, List, [], ◌∷◌, ◌++◌, length, Option, None, IsSome, Result, Ok, Err, refl, ap, sym, ◌∙◌, subst}
 use Rattle.cdb_source.specs.declared.source.Source.{Source}
 use Rattle.cdb_model.specs.Events as machine
 use Rattle.cdb_model.specs.Grammar.{InlineSource, FileSource}
 use Rattle.cdb_model.specs.Maps.{Content}
 use Rattle.cdb_model.specs.Sessions.{session_of, without}
-use Rattle.cdb_model.specs.Stores.{Kind, Which, kind_of}
-use Rattle.cdb_model.specs.Transitions.{StateIn, IsIdleIn, IsBusyIn, IsReadyIn, GivesIn, LoadsIn, BeginsIn, ConnectsIn, DisconnectsIn, TellsIn}
+use Rattle.cdb_model.specs.Stores.{Which, kind_of}
+use Rattle.cdb_model.specs.Transitions.{StateIn, IsReadyIn, GivesIn, LoadsIn, BeginsIn, ConnectsIn, DisconnectsIn, TellsIn}
 use Rattle.cdb_model.specs.declared.session.Session.{Session}
 use Rattle.cdb_chain.specs.Versions.{Versions}
 use Rattle.cdb_publish.specs.declared.publication.Publication as publish
@@ -20,9 +19,7 @@ use Rattle.cdb_engine.specs.Held.{Held, held_of}
 use Rattle.cdb_engine.specs.StoreAnswers.{session_answer, close_answer}
 use Rattle.cdb_engine.specs.Stays.{Shows, ChangesAlike}
 use Rattle.cdb_engine.specs.Tracks.{Leads}
-use Rattle.cdb_engine.specs.declared.reply.Opened.{Opened}
-use Rattle.cdb_engine.proofs.NoStep.{idle_as, busy_as, halted_as, some_there}
-use Rattle.cdb_engine.proofs.StepTracks.{not_there}
+use Rattle.cdb_engine.proofs.NoStep.{idle_as, busy_as, halted_as}
 
 -- ---- whether a source can be given
 

@@ -8,7 +8,7 @@ use Rattle.cdb_source.specs.declared.source.Source.{Source}
 use Rattle.cdb_tiff_base.specs.Numbers.{Bytes}
 use Rattle.cdb_tiff_base.specs.Strips.{image_width, image_length}
 use Rattle.cdb_model.specs.Grammar.{Head, InlineSource, FileSource}
-use Rattle.cdb_model.specs.Machine.{SpellsNone}
+use Rattle.cdb_model.specs.ImageFiles.{SpellsNone}
 use Rattle.cdb_model.specs.Spelled.{SpellsHead, SpellsSource, SpellsLoaded, row_of_posts, row_of_pixels}
 use Rattle.cdb_model.specs.Text.{last_first}
 use Rattle.cdb_engine.specs.Words.{HasRows, SpellsNoHead}

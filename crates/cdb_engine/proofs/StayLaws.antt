@@ -1,11 +1,11 @@
 -- What an engine and a state share, and what calls without a disk keep of it.
-use Rattle.std.proofs.Common.{◌≡◌, ℕ, ◌+◌, ◌≤◌, ◌<◌, List, [], ◌∷◌, ◌++◌, length, Option, None, Some, Bool, true, false, refl, ap, sym, ◌∙◌, subst, arith}
+use Rattle.std.proofs.Common.{◌≡◌, ℕ, List, Option, None, Some, refl, ap, sym, ◌∙◌, subst}
 use Rattle.std.specs.Option.{option_map, is_some}
 use Rattle.cdb_model.specs.KnownStore.{State, Going}
 use Rattle.cdb_model.specs.Maps.{FileMap}
 use Rattle.cdb_model.specs.Publications.{Publication}
 use Rattle.cdb_model.specs.Stores.{Which, known, any, kind_of, any_store, known_store}
-use Rattle.cdb_model.specs.Transitions.{StateIn, GoingIn}
+use Rattle.cdb_model.specs.Transitions.{StateIn}
 use Rattle.cdb_files.specs.Disk as disk
 use Rattle.cdb_chain.specs.Versions.{Versions}
 use Rattle.cdb_publish.specs.declared.publication.Publication as publish

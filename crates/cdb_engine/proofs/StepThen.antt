@@ -1,5 +1,5 @@
 -- What an engine is after a step, as its parts are settled.
-use Rattle.std.proofs.Common.{◌≡◌, ℕ, ◌≤◌, List, length, Option, None, Some, Result, refl, ap, sym, ◌∙◌, subst}
+use Rattle.std.proofs.Common.{◌≡◌, ℕ, ◌≤◌, length, Option, None, Some, Result, ap, sym, ◌∙◌, subst}
 use Rattle.cdb_model.specs.KnownStore.{State}
 use Rattle.cdb_model.specs.Maps.{FileMap}
 use Rattle.cdb_model.specs.Stores.{Which, kind_of}
@@ -15,7 +15,7 @@ use Rattle.cdb_engine.specs.Held.{Held, CanStep, IsEngine}
 use Rattle.cdb_engine.specs.StoreAnswers.{TriesIn, advance_answer, advance_of, work_after, halt_after, HaltsBy, AdvanceCause}
 use Rattle.cdb_engine.specs.Stays.{Stays}
 use Rattle.cdb_engine.specs.Tracks.{Tracks, Origin, Leads, DuringNow}
-use Rattle.cdb_engine.specs.declared.store.errors.AdvanceError.{AdvanceError}
+use Rattle.cdb_engine.specs.declared.errors.AdvanceError.{AdvanceError}
 use Rattle.cdb_engine.proofs.StayLaws.{both}
 use Rattle.cdb_engine.proofs.StepTracks.{Steps, after_step, known_step, any_step, engine_after, halts_after, cause_after, moments_now}
 

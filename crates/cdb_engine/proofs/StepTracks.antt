@@ -1,19 +1,16 @@
 -- What one step of a publication makes of what an engine tracks.
-use Rattle.std.proofs.Common.{◌≡◌, ◌≢◌, ℕ, zero, suc, min, ◌+◌, ◌-◌, ◌^◌, ◌<◌, ◌≤◌, ◌⊎◌, inl, inr, List, [], ◌∷◌, ◌++◌, length, Option, None, Some, IsSome, IfSome, Bool, true, false, Result, Ok, Err, OnOk, OnErr, IfOk, IfErr, refl, ap, sym, ◌∙◌, append_assoc, append-nil, length-append, subst, arith}
+use Rattle.std.proofs.Common.{◌≡◌, ℕ, zero, suc, min, ◌+◌, ◌-◌, ◌^◌, ◌<◌, ◌≤◌, ◌⊎◌, inl, inr, List, [], ◌∷◌, ◌++◌, length, Option, None, Some, IfSome, false, Result, Ok, Err, OnOk, OnErr, IfOk, IfErr, refl, ap, sym, ◌∙◌, append_assoc, append-nil, length-append, subst, arith}
 use Rattle.std.specs.List.{AllByRecursion}
 use Rattle.std.specs.Option.{is_some}
-use Rattle.cdb_grid.specs.declared.tile.Tile.{Tile}
-use Rattle.cdb_manifest.specs.declared.record_.Record.{Record}
-use Rattle.cdb_model.specs.Begun.{unfinished, HasBegun}
+use Rattle.cdb_model.specs.Begun.{unfinished}
 use Rattle.cdb_model.specs.Causes.{Rose}
 use Rattle.cdb_model.specs.Events as machine
-use Rattle.cdb_model.specs.Images.{Base, StandsFrom, StandsSince}
+use Rattle.cdb_model.specs.Images.{StandsFrom, StandsSince}
 use Rattle.cdb_model.specs.KnownStore.{State, Going}
 use Rattle.cdb_model.specs.Maps.{FileMap}
 use Rattle.cdb_model.specs.Publications.{Publication, step_count}
 use Rattle.cdb_model.specs.Stands.{Stands}
 use Rattle.cdb_model.specs.Stores.{known_store, any_store, Counted}
-use Rattle.cdb_model.specs.Transitions.{StateIn, GoingIn}
 use Rattle.cdb_model.proofs.OneLists.{one_touched}
 use Rattle.cdb_files.specs.Disk as disk
 use Rattle.cdb_files.specs.Disk.{IsImage}

@@ -1,17 +1,16 @@
 -- What a request for a tile makes of what an engine tracks.
-use Rattle.std.proofs.Common.{◌≡◌, ◌≢◌, ℕ, zero, suc, ◌+◌, ◌*◌, ◌/◌, ◌<◌, ◌≤◌, ◌⊎◌, inl, inr, List, [], ◌∷◌, ◌++◌, length, take, Option, None, Some, IsSome, Result, Ok, Err, refl, ap, sym, ◌∙◌, append_assoc, subst, arith}
-use Rattle.std.specs.Prelude.{slice_get, Contains}
+use Rattle.std.proofs.Common.{◌≡◌, ℕ, zero, suc, ◌+◌, ◌<◌, ◌≤◌, ◌⊎◌, inl, inr, List, [], ◌∷◌, ◌++◌, length, take, Option, None, Some, IsSome, Result, Ok, Err, refl, ap, sym, ◌∙◌, append_assoc, subst, arith}
+use Rattle.std.specs.Prelude.{slice_get}
 use Rattle.std.specs.List.{AllByRecursion}
 use Rattle.cdb_grid.specs.declared.tile.Tile.{Tile}
 use Rattle.cdb_source.specs.Reached.{Reached}
 use Rattle.cdb_source.specs.declared.source.Source.{Source}
 use Rattle.cdb_source.proofs.ReachLaws.{tile_same, tile_untouched, tile_unreached}
 use Rattle.cdb_model.specs.ByteLaws.{BytesByReaching}
-use Rattle.cdb_model.specs.Events as machine
 use Rattle.cdb_model.specs.KnownStore.{State, Going}
 use Rattle.cdb_model.specs.Maps.{FileMap, size_of}
 use Rattle.cdb_model.specs.Names.{path}
-use Rattle.cdb_model.specs.Publications.{Publication, heads_of, sources_in, sources_of, sources_up_to}
+use Rattle.cdb_model.specs.Publications.{Publication, heads_of, sources_of, sources_up_to}
 use Rattle.cdb_model.specs.Sessions.{session_of}
 use Rattle.cdb_model.specs.Stands.{Stands, HasVersion, IsVersionFile}
 use Rattle.cdb_model.specs.Stores.{Which, kind_of, known_store, any_store}
@@ -29,7 +28,7 @@ use Rattle.cdb_chain.proofs.Lists.{some_is, some_at, in_range, at_place, Split, 
 use Rattle.cdb_chain.proofs.ReachedLaws.{meets_sources, names_files}
 use Rattle.cdb_publish.specs.declared.publication.Publication as publish
 use Rattle.cdb_sessions.specs.Cache.{Kept, IsFront, IsKept, IsDamaged, HasNone, file_length}
-use Rattle.cdb_sessions.specs.Sessions.{Sessions, Looks, IsGiven, IsAsked, IsFoundDamaged, IsServed, AreCurrent, ServesCurrent, pair_of, open_part}
+use Rattle.cdb_sessions.specs.Sessions.{Sessions, Looks, IsServed, AreCurrent, ServesCurrent, pair_of, open_part}
 use Rattle.cdb_sessions.specs.declared.errors.TileError.{TileError}
 use Rattle.cdb_sessions.specs.declared.errors.TileError.TheVariants as tile_error
 use Rattle.cdb_sessions.specs.declared.sessions.Reply.{Reply}

@@ -33,6 +33,11 @@ held_of chain work pending sessions halted = record {
   reply = sessions.reply;
 }
 
+-- the sessions of an engine, with the files that it keeps
+abbrev pub sessions_part : Held → Sessions
+sessions_part held =
+    record { list = held.sessions; opened = held.opened; kept = held.kept; reply = held.reply }
+
 -- ---- what holds of any engine
 
 -- a publication that is going has steps left, makes the next version, and finds room for its record

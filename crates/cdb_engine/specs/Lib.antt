@@ -1,9 +1,5 @@
-pub mod Answers
 pub mod Held
-pub mod Laws
 pub mod Loading
-pub mod Pieces
-pub mod Rasters
 pub mod Stays
 pub mod Store
 pub mod StoreAnswers

@@ -5,7 +5,7 @@ use Rattle.cdb_tiff_base.specs.Causes.{cause_of}
 use Rattle.cdb_tiff_base.specs.Numbers.{Bytes}
 use Rattle.cdb_tiff_base.specs.declared.tiff_error.TiffError.{TiffError}
 use Rattle.cdb_model.specs.Grammar.{FileSource}
-use Rattle.cdb_model.specs.Machine.{HasImage, IsUnfit, SpellsNone}
+use Rattle.cdb_model.specs.ImageFiles.{HasImage, IsUnfit, SpellsNone}
 use Rattle.cdb_model.specs.Maps.{Content}
 use Rattle.cdb_model.specs.Spelled.{SpellsLoaded}
 use Rattle.cdb_engine.specs.declared.errors.LoadError.{LoadError}
@@ -42,7 +42,8 @@ IsLoaded w content (Err (Input error)) = IsRefused error content
 IsLoaded w content (Err Range) = IsUnfit w content
 
 -- some content, which is the file where the shelf tells, makes this of words
-pub record LoadOutcome (Tells : Type 0) (file : Content) (w : FileSource) (result : Result Source LoadError) : Type 0 where
+pub record LoadOutcome (Tells : Type 0) (file : Content) (w : FileSource) (result : Result Source LoadError)
+    : Type 0 where
   pub content : Content
   pub told : Tells → content ≡ file
   pub loaded : IsLoaded w content result

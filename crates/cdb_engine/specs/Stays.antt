@@ -1,5 +1,5 @@
 -- An engine over any disk: it follows a state of a store that is known, or has what a state of any store has.
-use Rattle.std.specs.Prelude.{◌≡◌, ℕ, List, length, Option, Some, None}
+use Rattle.std.specs.Prelude.{◌≡◌, ℕ, length}
 use Rattle.std.specs.Option.{option_map, is_some}
 use Rattle.cdb_model.specs.Maps.{FileMap}
 use Rattle.cdb_model.specs.Stores.{Which, known, any, kind_of, any_store}
@@ -35,7 +35,8 @@ StaysBy tells clock count since state origin d held known s =
 StaysBy tells clock count since state origin d held any s = s ≡ bare_of held
 
 pub record Stays {D : Type 0} (tells : Type 0) (clock count : D → ℕ) (since : D → ℕ → FileMap → Type 0)
-    (state : D → disk.State) (origin : Origin) (d : D) (held : Held) (w : Which) (s : StateIn (kind_of w)) : Type 0 where
+    (state : D → disk.State) (origin : Origin) (d : D) (held : Held) (w : Which) (s : StateIn (kind_of w))
+    : Type 0 where
   pub is : StaysBy tells clock count since state origin d held w s
 
 -- ---- calls that name no disk

@@ -1,5 +1,5 @@
 -- The disk at the beginning of a run: whole for a list, or left by a fault without a stop.
-use Rattle.std.specs.Prelude.{◌≡◌, ◌⊎◌, ℕ, List, [], ◌∷◌, Result, Ok, Err}
+use Rattle.std.specs.Prelude.{ℕ, List, [], ◌∷◌, Result, Ok, Err}
 use Rattle.cdb_model.specs.Images.{IsNext}
 use Rattle.cdb_model.specs.Maps.{FileMap}
 use Rattle.cdb_model.specs.Publications.{Publication}
@@ -34,8 +34,8 @@ abbrev pub open_error_of : RecoverError → OpenError
 open_error_of recovery.Fault = Fault
 open_error_of (recovery.NotAStore version place) = NotAStore version place
 
--- recovery refuses the files that were there; or it gives the newest version, and of the versions up to it one has a bad
--- record among the files that recovery leaves, the first such version
+-- recovery refuses the files that were there; or it gives the newest version, and of the versions up to it one has a
+-- bad record among the files that recovery leaves, the first such version
 pub data IsNoStore (present : FileMap) (version place : ℕ) : Type 0 where
   unrecovered : IsAnswer present (Err (recovery.NotAStore version place)) → IsNoStore present version place
   bad_record : (newest : ℕ) (left : FileMap) → IsAnswer present (Ok newest) → KeepsStore present left

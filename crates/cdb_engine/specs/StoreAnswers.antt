@@ -1,5 +1,5 @@
 -- Which answer of the machine each result of an engine over a disk is, and what a step leaves.
-use Rattle.std.specs.Prelude.{◌≡◌, ℕ, ◌≤◌, List, [], length, Option, Some, None, Result, Ok, Err, IsSome}
+use Rattle.std.specs.Prelude.{◌≡◌, ℕ, List, [], length, Option, Some, None, Result, Ok, Err, IsSome}
 use Rattle.cdb_model.specs.Causes.{Rose}
 use Rattle.cdb_model.specs.Events as machine
 use Rattle.cdb_model.specs.Events.{Answer}
@@ -23,12 +23,12 @@ use Rattle.cdb_sessions.specs.declared.sessions.Reply.TheVariants.{Missing, Byte
 use Rattle.cdb_engine.specs.Held.{Held}
 use Rattle.cdb_engine.specs.declared.reply.Begun.{Begun}
 use Rattle.cdb_engine.specs.declared.reply.Opened.{Opened}
-use Rattle.cdb_engine.specs.declared.store.errors.AdvanceError.{AdvanceError}
-use Rattle.cdb_engine.specs.declared.store.errors.AdvanceError.TheVariants as advance
-use Rattle.cdb_engine.specs.declared.store.errors.PublishError.{PublishError}
-use Rattle.cdb_engine.specs.declared.store.errors.PublishError.TheVariants as publish
-use Rattle.cdb_engine.specs.declared.store.errors.ReadyError.{ReadyError}
-use Rattle.cdb_engine.specs.declared.store.errors.ReadyError.TheVariants as ready
+use Rattle.cdb_engine.specs.declared.errors.AdvanceError.{AdvanceError}
+use Rattle.cdb_engine.specs.declared.errors.AdvanceError.TheVariants as advance
+use Rattle.cdb_engine.specs.declared.errors.PublishError.{PublishError}
+use Rattle.cdb_engine.specs.declared.errors.PublishError.TheVariants as publish
+use Rattle.cdb_engine.specs.declared.errors.ReadyError.{ReadyError}
+use Rattle.cdb_engine.specs.declared.errors.ReadyError.TheVariants as ready
 
 -- why no source can be submitted now
 abbrev pub ready_answer : ReadyError → Answer

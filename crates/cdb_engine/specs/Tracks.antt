@@ -31,13 +31,14 @@ pub record IsGoing (list : List Publication) (now : Going) (work : publish.Publi
   pub some_left : 0 < now.left
   pub room : work.files < chain.spare
 
--- What the disk is, by what is going and what was given up: clean for the list; in the middle of the publication that is
--- going; or such that a crash leaves the list, or the list and the publication that was given up.
+-- What the disk is, by what is going and what was given up: clean for the list; in the middle of the publication that
+-- is going; or such that a crash leaves the list, or the list and the publication that was given up.
 abbrev pub Works : List Publication → Option Going → Option Publication → Option publish.Publication → Option ℕ
     → Versions → disk.State → Type 0
 Works list None None None None chain d = IsClean Stands list d
 Works list (Some now) None (Some work) None chain d = IsGoing list now work chain d
-Works list None (Some given_up) None (Some faults) chain d = (m : FileMap) → IsImage d m → IsEither Stands list given_up m
+Works list None (Some given_up) None (Some faults) chain d =
+    (m : FileMap) → IsImage d m → IsEither Stands list given_up m
 Works list _ _ _ _ chain d = ⊥
 
 -- A tile's file that is kept is that of a version of the list.
@@ -63,8 +64,8 @@ pub record Origin : Type 0 where
   pub store : Base
   pub faults : ℕ
 
--- The same of an engine whose run began so: whatever a crash since that moment may have left stands for the list followed
--- by the first of the publications begun, and where the engine was halted, calls of the disk had failed since.
+-- The same of an engine whose run began so: whatever a crash since that moment may have left stands for the list
+-- followed by the first of the publications begun, and where the engine was halted, calls of the disk had failed since.
 pub record Follows (tells : Type 0) (origin : Origin) (clock count : ℕ) (since : ℕ → FileMap → Type 0) (d : disk.State)
     (held : Held) (s : State) : Type 0 where
   pub told : tells

@@ -1,97 +1,84 @@
-ghost use Rattle.std.specs.Prelude.{◌≡◌, ◌++◌, ◌∷◌, ◌+◌, ◌<◌, ◌≤◌, ◌↔◌, [], length, is_some, IsSome, IsErr, IfOk, IfErr, OnOk, OnErr, ◌^◌};
+ghost use Rattle.std.specs.Prelude.{◌≡◌, ◌≢◌, ◌++◌, ◌∷◌, ◌+◌, ◌<◌, ◌≤◌, ◌↔◌, ℕ, List, [], None, length, is_some, IsSome, IfOk, IfErr, OnOk, OnErr, Err};
+ghost use Rattle.cdb_source.specs.declared.source.Source as given;
 ghost use Rattle.cdb_model.specs.Causes.{Rose};
+ghost use Rattle.cdb_model.specs.Events as machine;
 ghost use Rattle.cdb_model.specs.Grammar.{InlineSource, FileSource, inline_in, file_in};
-ghost use Rattle.cdb_model.specs.Machine.{Held, Step, SpellsNone, start, give, begin, finish, connect, ask, disconnect, tell, session_of};
-ghost use Rattle.cdb_model.specs.Machine as machine;
+ghost use Rattle.cdb_model.specs.ImageFiles.{SpellsNone};
+ghost use Rattle.cdb_model.specs.KnownStore.{State};
 ghost use Rattle.cdb_model.specs.Maps.{Content};
+ghost use Rattle.cdb_model.specs.Sessions.{session_of};
 ghost use Rattle.cdb_model.specs.Spelled.{SpellsSource};
-ghost use Rattle.cdb_engine.specs.Answers.{ready_answer, publish_answer, finish_answer, session_answer, close_answer, tile_answer, HasBytes};
+ghost use Rattle.cdb_model.specs.Stores.{Which, kind_of};
+ghost use Rattle.cdb_model.specs.Transitions.{StateIn, IsReadyIn, GivesIn, LoadsIn, ConnectsIn, AsksIn, DisconnectsIn, TellsIn};
+ghost use Rattle.cdb_files.specs.Moments.{AddsOnly, Rests};
+ghost use Rattle.cdb_sessions.specs.Sessions.{IsServed, AreCurrent, ServesCurrent};
+ghost use Rattle.cdb_engine.specs.Held.{sessions_part};
 ghost use Rattle.cdb_engine.specs.Loading.{LoadOutcome};
+ghost use Rattle.cdb_engine.specs.StoreAnswers.{ready_answer, session_answer, close_answer, advance_answer, tile_answer, HasBytes, TriesIn, HaltsBy, AdvanceCause, left_in};
+ghost use Rattle.cdb_engine.specs.Stays.{Stays, Shows, ChangesAlike};
+ghost use Rattle.cdb_engine.specs.Tracks.{Origin, Tracks, Leads, DuringNow};
 
-use crate::errors::{
-    AdvanceError, InlineError, LoadError, PublishError, ReadyError, SessionError, SubmitRefused,
-    TileError, Unknown,
-};
+use crate::errors::{AdvanceError, InlineError, LoadError, ReadyError, SubmitRefused};
 use crate::posts::spelled;
-use crate::publications::Publications;
-use crate::reply::{Begun, Opened, Reply};
-use crate::sessions::{remove_session, session_of};
+use crate::reply::Opened;
+use crate::settle::{Settled, settle};
 use crate::source_file::loaded;
-use crate::sources::Sources;
-use crate::tile_file::reply_with;
-use crate::touched_files::count_files;
 use crate::{InlineOrder, LoadOrder};
-use cdb_files::Shelf;
+use cdb_chain::Chain;
+use cdb_files::{Disk, Shelf};
 use cdb_grid::Tile;
-use cdb_model::Session;
+use cdb_publish::{Progress, Publication};
+use cdb_sessions::{Reply, SessionError, Sessions, TileError, Unknown};
 use cdb_source::Source;
-use cdb_touch::TouchError;
-use std::alloc::{AllocError, Global};
+use std::alloc::Global;
 use std::marker::Model;
 
-/// How many sources can be pending, and how many sessions open.
+/// How many sources can be pending.
 const MOST: usize = 64;
 
-/// The publications, the sources that are pending, the publication that is going, and the open
-/// sessions, all in memory; and the values and the bytes of the tile that was asked for last.
+/// The records of the versions, the publication that is going, the sources that are pending, the open
+/// sessions with the tiles that were read last, and the count of the disk's failed calls at which the
+/// writer was halted.
 #[derive(Drop)]
 pub struct Engine {
-    publications: Publications,
-    pending: Sources,
-    going: Option<Sources>,
-    sessions: Vec<Session>,
-    opened: u32,
-    frame: Vec<i16>,
-    reply: Vec<u8>,
+    pub(crate) chain: Chain,
+    pub(crate) work: Option<Publication>,
+    pub(crate) pending: Vec<Source>,
+    pub(crate) sessions: Sessions,
+    pub(crate) halted: Option<u64>,
 }
 
 impl Model for Engine {
+    ghost use Rattle.std.specs.Coded.{codes};
+    ghost use Rattle.cdb_publish.specs.contracts.publication.Publication as publish;
+    ghost use Rattle.cdb_engine.specs.Held.{Held, held_of, IsEngine};
+
     ghost Value = { Held };
 
-    ghost view = { λ e. record {
-      state = record {
-        list = e.publications;
-        pending = e.pending;
-        going = e.going;
-        sessions = e.sessions.items;
-        opened = e.opened;
-      };
-      reply = e.reply.items;
-    } };
+    ghost coded = { Prim.hlevel (codes, publish.the_row.coded) };
 
-    ghost invariant = { λ e. (length e.publications < 2 ^ 32) × (length e.pending ≤ 64) × (length e.sessions.items ≤ 64) };
+    ghost view = { λ e. held_of e.chain e.work e.pending.items e.sessions e.halted };
+
+    ghost invariant = { λ e. IsEngine e.chain e.work e.pending.items e.halted };
 }
 
 impl Engine {
-    /// An engine with no publication, no source and no session.
-    pub fn new(alloc: Global) -> Result<Engine, AllocError>
-        ensures { IfOk result (λ engine. engine ≡ record { state = start; reply = [] }) }
-    {
-        Ok(Engine {
-            publications: Publications::new(alloc),
-            pending: Sources::new(alloc),
-            going: None,
-            sessions: Vec::new(alloc),
-            opened: 0,
-            frame: Vec::new(alloc),
-            reply: Vec::new(alloc),
-        })
-    }
-
-    /// Whether a source can be submitted. `Busy` comes first: a publication is going. `Full`: 64
-    /// sources are pending.
+    /// Whether a source can be submitted. `Halted` comes first: a step of this opening failed or found
+    /// a file damaged. Then `Busy`: a publication is going. `Full`: 64 sources are pending.
     pub fn ready(&self) -> Result<(), ReadyError>
-        ensures idle { OnOk result (self.now.state.going ≡ None) }
-        ensures room { OnOk result (length self.now.state.pending < 64) }
-        ensures busy { (result ≡ Err ReadyError.Busy) ↔ IsSome self.now.state.going }
-        ensures full { (result ≡ Err ReadyError.Full)
-            ↔ ((self.now.state.going ≡ None) × (length self.now.state.pending ≡ 64)) }
-        ensures gives { IfErr result (λ error. (words : InlineSource)
-            → Step self.now.state (give words) (ready_answer error) self.now.state) }
-        ensures loads { IfErr result (λ error. (words : FileSource) (content : Content)
-            → Step self.now.state (machine.load words content) (ready_answer error) self.now.state) }
+        ensures ok { (w : Which) (s : StateIn (kind_of w)) → Shows self.now w s
+            → OnOk result (IsReadyIn (kind_of w) s) }
+        ensures gives { IfErr result (λ error. (w : Which) (s : StateIn (kind_of w)) (words : InlineSource)
+            → Shows self.now w s → GivesIn (kind_of w) s words (ready_answer error) s) }
+        ensures loads { IfErr result (λ error. (w : Which) (s : StateIn (kind_of w)) (words : FileSource)
+            (content : Content) → Shows self.now w s → LoadsIn (kind_of w) s words content (ready_answer error) s) }
+        ensures running { OnOk result (self.now.halted ≡ None) }
+        ensures idle { OnOk result (self.now.work ≡ None) }
+        ensures room { OnOk result (length self.now.pending < 64) }
     {
-        if self.going.is_some() {
+        if self.halted.is_some() {
+            Err(ReadyError::Halted)
+        } else if self.work.is_some() {
             Err(ReadyError::Busy)
         } else if self.pending.len() >= MOST {
             Err(ReadyError::Full)
@@ -102,16 +89,36 @@ impl Engine {
 
     /// Whether a publication is going.
     pub fn going(&self) -> bool
-        ensures { result ≡ is_some self.now.state.going }
+        ensures { result ≡ is_some self.now.work }
     {
-        self.going.is_some()
+        self.work.is_some()
     }
 
-    /// The number of publications, which is the newest version.
-    pub fn versions(&self) -> u32
-        ensures { Step self.now.state tell (machine.versions result) self.now.state }
+    /// How many steps are left of the publication that is going, 0 where none is.
+    pub fn left(&self) -> u32
+        ensures { result ≡ left_in self.now.work }
     {
-        self.publications.len() as u32
+        match &self.work {
+            Some(work) => work.left(),
+            None => 0,
+        }
+    }
+
+    /// Where a step failed or found a file damaged, how many calls of the disk had failed then.
+    pub fn halted(&self) -> Option<u64>
+        ensures { result ≡ self.now.halted }
+    {
+        self.halted
+    }
+
+    /// The newest version.
+    pub fn versions(&self) -> u32
+        ensures tells { (w : Which) (s : StateIn (kind_of w)) → Shows self.now w s
+            → TellsIn (kind_of w) s (machine.versions result) s }
+        ensures value { result ≡ length self.now.chain.records }
+        ensures most { result ≤ 4096 }
+    {
+        self.chain.newest()
     }
 
     /// Makes the source that an order spells. The number that has no value is -32768 for elevation
@@ -149,13 +156,13 @@ impl Engine {
     /// Puts a source behind those that are pending, and answers how many are pending then. To be
     /// called where `ready` answers Ok. Where memory was refused the source comes back.
     pub fn submit(&mut self, source: Source) -> Result<u32, SubmitRefused>
-        requires idle { self.old.state.going ≡ None }
-        requires room { length self.old.state.pending < 64 }
-        ensures number { IfOk result (λ number. number ≡ length self.old.state.pending + 1) }
-        ensures next { OnOk result (self.new.state ≡ record self.old.state { pending = self.old.state.pending ++ source ∷ [] }) }
+        requires running { self.old.halted ≡ None }
+        requires idle { self.old.work ≡ None }
+        requires room { length self.old.pending < 64 }
+        ensures number { IfOk result (λ number. number ≡ length self.old.pending + 1) }
+        ensures next { OnOk result (self.new ≡ record self.old { pending = self.old.pending ++ source ∷ [] }) }
         ensures refused { IfErr result (λ refused. refused.source ≡ source) }
         ensures err { OnErr result (self.new ≡ self.old) }
-        ensures reply { self.new.reply ≡ self.old.reply }
     {
         match self.pending.push(source) {
             Ok(()) => Ok(self.pending.len() as u32),
@@ -165,119 +172,99 @@ impl Engine {
         }
     }
 
-    /// Begins a publication of the sources that are pending. It has a file for each tile that they
-    /// touch. `Busy`: a publication is going. `Nothing`: no source is pending. `Large`: the load of
-    /// the sources, `count`, is above 16,384. `Memory`: memory was refused, or the version would pass
-    /// `2^32 - 1`.
-    pub fn publish(&mut self, alloc: Global) -> Result<Begun, PublishError>
-        ensures step { Step self.old.state begin (publish_answer result) self.new.state }
-        ensures busy { (result ≡ Err PublishError.Busy) ↔ IsSome self.old.state.going }
-        ensures nothing { (result ≡ Err PublishError.Nothing)
-            ↔ ((self.old.state.going ≡ None) × (self.old.state.pending ≡ [])) }
-        ensures err { OnErr result (self.new ≡ self.old) }
+    /// Makes the next step of the publication that is going. `Halted` comes first: a step of this
+    /// opening failed or found a file damaged. Then `Nothing`: none is going. `Fault` only where a
+    /// call of the disk failed, and `Damaged` where a file that the step reads has another size than
+    /// its form gives: the publication is given up then, and the writer halted at the count of failed
+    /// calls that the disk tells. It takes no memory.
+    pub fn step<D: Disk>(&mut self, disk: &mut D) -> Result<Progress, AdvanceError>
+        ensures step { (w : Which) (origin : Origin) (s : StateIn (kind_of w))
+            → Stays D.tells D.clock D.fault_count D.since D.state origin disk.old self.old w s
+            → Leads (TriesIn (kind_of w) s (advance_answer result))
+            (Stays D.tells D.clock D.fault_count D.since D.state origin disk.new self.new w) }
+        ensures moments { (s : State) → D.tells → Tracks self.old (D.state disk.old) s
+            → AddsOnly D.clock D.since disk.old disk.new (DuringNow s.list s.going) }
+        ensures halt { HaltsBy result self.old.halted self.new.halted (D.fault_count disk.new) }
         ensures reply { self.new.reply ≡ self.old.reply }
+        ensures kept { self.new.kept ≡ self.old.kept }
+        ensures later { D.fault_count disk.old ≤ D.fault_count disk.new }
+        ensures cause { AdvanceCause result (D.fault_count disk.old) (D.fault_count disk.new) }
     {
-        if self.going.is_some() {
-            return Err(PublishError::Busy);
+        if self.halted.is_some() {
+            return Err(AdvanceError::Halted);
         }
-        if self.pending.len() == 0 {
-            return Err(PublishError::Nothing);
-        }
-        let Some(version) = self.publications.next_version() else {
-            return Err(PublishError::Memory);
-        };
-        match count_files(alloc, &self.pending) {
-            Ok(files) => {
-                self.going = Some(self.pending.take());
-                Ok(Begun { version, files })
-            }
-            Err(TouchError::Large { count }) => Err(PublishError::Large { count }),
-            Err(TouchError::Memory) => Err(PublishError::Memory),
-        }
-    }
-
-    /// Makes all steps of the publication that is going, and answers its version. `Nothing`: none
-    /// is going. `Memory`: memory was refused, or the version would pass `2^32 - 1`; the publication
-    /// is still going then.
-    pub fn finish(&mut self) -> Result<u32, AdvanceError>
-        ensures step { Step self.old.state finish (finish_answer result) self.new.state }
-        ensures nothing { (result ≡ Err AdvanceError.Nothing) ↔ (self.old.state.going ≡ None) }
-        ensures err { OnErr result (self.new ≡ self.old) }
-        ensures reply { self.new.reply ≡ self.old.reply }
-    {
-        let Some(mut sources) = self.going.take() else {
+        let Some(mut work) = self.work.take() else {
             return Err(AdvanceError::Nothing);
         };
-        let Some(version) = self.publications.next_version() else {
-            self.going = Some(sources);
-            return Err(AdvanceError::Memory);
-        };
-        match self.publications.push(&mut sources) {
-            Ok(()) => Ok(version),
-            Err(_) => {
-                self.going = Some(sources);
-                Err(AdvanceError::Memory)
-            }
-        }
+        let made = work.step(&mut self.chain, disk);
+        let Settled {
+            work,
+            halted,
+            answer,
+        } = settle(made, work, disk.faults());
+        self.work = work;
+        self.halted = halted;
+        answer
     }
 
     /// Opens a session at the newest version. Numbers are 1, 2, 3 and so on, and none is used again.
     /// `Many`: 64 sessions are open. `Memory`: memory was refused, or `2^32 - 1` sessions were opened.
     pub fn open_session(&mut self) -> Result<Opened, SessionError>
-        ensures step { Step self.old.state connect (session_answer result) self.new.state }
-        ensures many { (result ≡ Err SessionError.Many) ↔ (length self.old.state.sessions ≡ 64) }
-        ensures err { OnErr result (self.new ≡ self.old) }
+        ensures connects { (w : Which) (s : StateIn (kind_of w)) → Shows self.old w s
+            → Leads (ConnectsIn (kind_of w) s (session_answer result)) (ChangesAlike self.old self.new w s) }
         ensures reply { self.new.reply ≡ self.old.reply }
+        ensures kept { self.new.kept ≡ self.old.kept }
     {
-        if self.sessions.len() >= MOST {
-            return Err(SessionError::Many);
-        }
-        let Some(id) = self.opened.checked_add(1) else {
-            return Err(SessionError::Memory);
-        };
-        let version = self.versions();
-        match self.sessions.push(Session { id, version }) {
-            Ok(()) => {
-                self.opened = id;
-                Ok(Opened { id, version })
-            }
-            Err(_) => Err(SessionError::Memory),
+        let version = self.chain.newest();
+        match self.sessions.open(version) {
+            Ok(id) => Ok(Opened { id, version }),
+            Err(error) => Err(error),
         }
     }
 
     /// Ends the session of this number. `Unknown`: no session of that number is open.
     pub fn close_session(&mut self, id: u32) -> Result<(), Unknown>
-        ensures step { Step self.old.state (disconnect id) (close_answer result) self.new.state }
-        ensures unknown { IsErr result ↔ (session_of id self.old.state.sessions ≡ None) }
-        ensures err { OnErr result (self.new ≡ self.old) }
+        ensures disconnects { (w : Which) (s : StateIn (kind_of w)) → Shows self.old w s
+            → Leads (DisconnectsIn (kind_of w) s id (close_answer result)) (ChangesAlike self.old self.new w s) }
         ensures reply { self.new.reply ≡ self.old.reply }
+        ensures kept { self.new.kept ≡ self.old.kept }
     {
-        if session_of(&self.sessions, id).is_none() {
-            return Err(Unknown);
-        }
-        remove_session(&mut self.sessions, id);
-        Ok(())
+        self.sessions.close(id)
     }
 
     /// Asks for a tile in a session, which answers from the publications up to its version. Where
     /// a source of these reaches the tile, `Engine::reply` has the bytes of its file then; in every
-    /// other case, an error included, it is empty. `Unknown`: no session of that number is open.
-    /// `Memory`: memory for the values or for the bytes of a tile that is reached was refused.
-    pub fn tile(&mut self, id: u32, tile: &Tile) -> Result<Reply, TileError>
-        ensures step { Step self.old.state (ask id tile.now) (tile_answer result self.new.reply) self.new.state }
-        ensures unknown { (result ≡ Err TileError.Unknown) ↔ (session_of id self.old.state.sessions ≡ None) }
+    /// other case, an error included, it is empty. The files of the seven tiles that were answered
+    /// last are kept, and such a file is given without a call of the disk; any other is read by one
+    /// call. It takes no memory, and changes no session and no publication. `Unknown`: no session of
+    /// that number is open. `Fault` only where a call of the disk failed. `Damaged`: the tile's file
+    /// isn't kept, and isn't there or has another size than its form gives.
+    pub fn tile<D: Disk>(&mut self, id: u32, tile: &Tile, disk: &mut D) -> Result<Reply, TileError>
+        ensures asks { (w : Which) (origin : Origin) (s : StateIn (kind_of w))
+            → Stays D.tells D.clock D.fault_count D.since D.state origin disk.old self.old w s
+            → Leads (AsksIn (kind_of w) s id tile.now (tile_answer result self.new.reply))
+            (Stays D.tells D.clock D.fault_count D.since D.state origin disk.new self.new w) }
+        ensures same { self.new ≡ record self.old { kept = self.new.kept; reply = self.new.reply } }
+        ensures served { IsServed D.tells (D.state disk.old).present disk.old disk.new self.old.chain id tile.now
+            (sessions_part self.old) (sessions_part self.new) result }
+        ensures current { D.tells → AreCurrent (D.state disk.old).present self.old.kept
+            → ServesCurrent (D.state disk.old).present self.old.sessions self.old.chain id tile.now
+            (sessions_part self.new) result }
         ensures bytes { HasBytes result self.new.reply }
-        ensures state { self.new.state ≡ self.old.state }
+        ensures state { D.state disk.new ≡ D.state disk.old }
+        ensures time { Rests (D.clock disk.old) (D.clock disk.new) (D.since disk.old) (D.since disk.new) }
+        ensures reads { D.read_count disk.new ≤ D.read_count disk.old + 1 }
+        ensures later { D.fault_count disk.old ≤ D.fault_count disk.new }
+        ensures cause { result ≡ Err TileError.Fault → Rose (D.fault_count disk.old) (D.fault_count disk.new) }
     {
-        let Some(session) = session_of(&self.sessions, id) else {
-            self.reply.clear();
-            return Err(TileError::Unknown);
-        };
-        let sources = self.publications.up_to(session.version);
-        match reply_with(sources, tile, &mut self.frame, &mut self.reply) {
-            Ok(reply) => Ok(reply),
-            Err(_) => Err(TileError::Memory),
-        }
+        self.sessions.tile(id, tile, &self.chain, disk)
+    }
+
+    /// The files of at most seven tiles are kept.
+    pub fn kept_are_few(&self)
+        ensures { length self.now.kept ≤ 7 }
+    {
+        self.sessions.kept_are_few();
     }
 
     /// The bytes of the file of the tile that was asked for last; none where that request was answered
@@ -285,6 +272,6 @@ impl Engine {
     pub fn reply(&self) -> &[u8]
         ensures { result.now ≡ self.now.reply }
     {
-        &self.reply
+        self.sessions.reply()
     }
 }

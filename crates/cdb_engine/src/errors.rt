@@ -1,13 +1,19 @@
+use cdb_publish::PlanError;
 use cdb_source::Source;
 use cdb_tiff_read::TiffError;
 use thiserror::Error;
 
 /// Why no source can be submitted now.
-#[derive(Clone, Copy, Debug, PartialEq, Eq)]
+#[derive(Clone, Copy, Debug, PartialEq, Eq, Error)]
 pub enum ReadyError {
+    /// A step of this opening failed or found a file damaged.
+    #[error("the writer is halted")]
+    Halted,
     /// A publication is going.
+    #[error("a publication is going")]
     Busy,
     /// 64 sources are pending.
+    #[error("64 sources are pending")]
     Full,
 }
 
@@ -46,6 +52,9 @@ pub struct SubmitRefused {
 /// Why no publication was begun.
 #[derive(Clone, Copy, Debug, PartialEq, Eq, Error)]
 pub enum PublishError {
+    /// A step of this opening failed or found a file damaged.
+    #[error("the writer is halted")]
+    Halted,
     /// A publication is going.
     #[error("a publication is going")]
     Busy,
@@ -55,40 +64,42 @@ pub enum PublishError {
     /// The load of the pending sources, `count`, is above 16,384.
     #[error("the load of the pending sources is {count}, above 16384")]
     Large { count: u128 },
-    /// Memory was refused, or the version would pass `2^32 - 1`.
-    #[error("out of memory")]
-    Memory,
-}
-
-/// Why no publication was finished.
-#[derive(Clone, Copy, Debug, PartialEq, Eq, Error)]
-pub enum AdvanceError {
-    /// No publication is going.
-    #[error("no publication is going")]
-    Nothing,
-    /// Memory was refused, or the version would pass `2^32 - 1`.
-    #[error("out of memory")]
-    Memory,
-}
-
-/// Why no session was opened.
-#[derive(Clone, Copy, Debug, PartialEq, Eq)]
-pub enum SessionError {
-    /// Memory was refused, or `2^32 - 1` sessions were opened.
-    Memory,
-    /// 64 sessions are open.
-    Many,
-}
-
-/// No session of that number is open.
-#[derive(Clone, Copy, Debug, PartialEq, Eq)]
-pub struct Unknown;
-
-/// Why a request for a tile has no reply.
-#[derive(Clone, Copy, Debug, PartialEq, Eq)]
-pub enum TileError {
-    /// No session of that number is open.
-    Unknown,
+    /// The tile entries of all records would be `count`, above 1,000,000.
+    #[error("the store would have {count} tile entries, above 1000000")]
+    Entries { count: u32 },
+    /// There are 4,096 versions.
+    #[error("the store has 4096 versions")]
+    Versions,
     /// Memory was refused.
+    #[error("out of memory")]
     Memory,
+}
+
+/// Why no step was made, or a step failed.
+#[derive(Clone, Copy, Debug, PartialEq, Eq)]
+pub enum AdvanceError {
+    /// A step of this opening failed or found a file damaged.
+    Halted,
+    /// No publication is going.
+    Nothing,
+    /// A call of the disk failed.
+    Fault,
+    /// A file that the step reads has another size than its form gives, or isn't there.
+    Damaged { expected: u64, found: Option<u64> },
+}
+
+impl From<PlanError> for PublishError {
+    ghost use Rattle.std.specs.Prelude.{◌≡◌};
+    ghost use Rattle.cdb_engine.specs.StoreAnswers.{refusal_of};
+
+    ghost from_gives = { λ p e. e ≡ refusal_of p };
+
+    fn from(refused: PlanError) -> PublishError {
+        match refused {
+            PlanError::Memory => PublishError::Memory,
+            PlanError::Large { count } => PublishError::Large { count },
+            PlanError::Entries { count } => PublishError::Entries { count },
+            PlanError::Versions => PublishError::Versions,
+        }
+    }
 }

@@ -51,21 +51,24 @@ pub fn of_file(order: &LoadWords) -> HeadWords
 
 /// The level of the words, if there is one of its number.
 fn level(words: &HeadWords) -> Option<Level>
-    ensures { MatchOption result ((level : model.Level) → level.number ≡ words.now.level → ⊥) (λ level. level.number ≡ words.now.level) }
+    ensures { MatchOption result ((level : model.Level) → level.number ≡ words.now.level → ⊥)
+        (λ level. level.number ≡ words.now.level) }
 {
     Level::new(words.level)
 }
 
 /// The arc units of a fraction of degrees, where they are a whole number.
 fn arc(fraction: &Fraction) -> Option<Arc>
-    ensures { MatchOption result ((units : ℤ) → IsUnits fraction.now units → ⊥) (λ arc. IsUnits fraction.now arc.units) }
+    ensures { MatchOption result ((units : ℤ) → IsUnits fraction.now units → ⊥)
+        (λ arc. IsUnits fraction.now arc.units) }
 {
     Arc::of_fraction(fraction.n, fraction.d)
 }
 
 /// The head that the words give with so many rows and columns, if there is one.
 pub fn head_of(words: &HeadWords, rows: u32, cols: u32) -> Option<SourceHead>
-    ensures { MatchOption result (SpellsNoHead (head_in words.now) rows cols) (SpellsHead (head_in words.now) rows cols) }
+    ensures { MatchOption result (SpellsNoHead (head_in words.now) rows cols)
+        (SpellsHead (head_in words.now) rows cols) }
 {
     let level = level(words)?;
     let lat = arc(&words.lat)?;

@@ -29,7 +29,8 @@ fn push_rows(
     requires buffer { length buffer.old ≡ image.now.width }
     requires fresh { HasRows maker.old.head novalue (row_of_pixels bytes.now) 0 maker.old }
     ensures ok { OnOk result (HasRows maker.old.head novalue (row_of_pixels bytes.now) image.now.length maker.new) }
-    ensures err { OnErr result (All (IsAllowed maker.old.head.kind novalue) (last_first image.now.length (row_of_pixels bytes.now)) → ⊥) }
+    ensures err { OnErr result (All (IsAllowed maker.old.head.kind novalue)
+        (last_first image.now.length (row_of_pixels bytes.now)) → ⊥) }
 {
     for r in 0..image.length {
         row(image, bytes, r, buffer);

@@ -11,12 +11,3 @@ pub struct Opened {
     pub id: u32,
     pub version: u32,
 }
-
-/// The reply to a request for a tile.
-#[derive(Clone, Copy, Debug, PartialEq, Eq)]
-pub enum Reply {
-    /// No source reaches the tile.
-    Missing,
-    /// The tile's file has so many bytes, and `Engine::reply` gives them.
-    Bytes(u32),
-}

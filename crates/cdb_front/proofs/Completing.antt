@@ -16,34 +16,41 @@ no_rise : (before now : ℕ) → Still before now → Rose before now → ⊥
 no_rise before now s rose = let e = s.0 in let l = s.1 in omega (arith, e, l, rose)
 
 -- a run over a store doesn't end as over none
-ends_of_store : (status : Status) (old new : Option (List ℕ)) (result : Status) → EndsWith status old new result → IsOfStore status → IsOfStore result
+ends_of_store : (status : Status) (old new : Option (List ℕ)) (result : Status) → EndsWith status old new result
+    → IsOfStore status → IsOfStore result
 ends_of_store status old new result (is_whole written) s = s
 ends_of_store status old new result (is_part written) s = tt
 
-pub completes : (v : Devices) (input_faults : v.I → ℕ) (output_faults : v.O → ℕ) → Completes v input_faults output_faults
+pub completes : (v : Devices) (input_faults : v.I → ℕ) (output_faults : v.O → ℕ)
+    → Completes v input_faults output_faults
 completes v input_faults output_faults life base goes u =
     record {
       ends = by life.status refl;
       few = in_time life.status goes;
       quits = quits life.status goes;
-      plain = plain_answers (Holds v.shelf_tells (v.files life.shelf)) (start_at base.list) goes.run.state goes.transcript.items goes.transcript.answers goes.run.run refl disks shelves;
+      plain = plain_answers (Holds v.shelf_tells (v.files life.shelf)) (start_at base.list) goes.run.state
+          goes.transcript.items goes.transcript.answers goes.run.run refl disks shelves;
     }
   where
     disks : tally disk_fault goes.transcript.answers ≡ 0
-    disks = let e = u.disk.0 in let l = u.disk.1 in let c = goes.transcript.disk_counted (omega (arith, e, l)) in omega (arith, c, e)
+    disks = let e = u.disk.0 in let l = u.disk.1 in let c = goes.transcript.disk_counted (omega (arith, e, l)) in
+        omega (arith, c, e)
 
     shelves : tally shelf_fault goes.transcript.answers ≡ 0
-    shelves = let e = u.shelf.0 in let l = u.shelf.1 in let c = goes.transcript.shelf_counted (omega (arith, e, l)) in omega (arith, c, e)
+    shelves = let e = u.shelf.0 in let l = u.shelf.1 in let c = goes.transcript.shelf_counted (omega (arith, e, l)) in
+        omega (arith, c, e)
 
     of_store : IsOfStore life.status
     of_store = ends_of_store goes.status goes.written (v.written life.output') life.status goes.ends goes.run.of_store
 
-    by : (status : Status) → life.status ≡ status → (life.status ≡ Done) ⊎ ((life.status ≡ Memory) ⊎ (life.status ≡ TooLong))
+    by : (status : Status) → life.status ≡ status → (life.status ≡ Done)
+        ⊎ ((life.status ≡ Memory) ⊎ (life.status ≡ TooLong))
     by Done is = inl is
     by Memory is = inr (inl is)
     by TooLong is = inr (inr is)
     by Usage is = absurd (u.words is)
     by InputFault is = absurd (no_rise (input_faults life.input) (input_faults life.input') u.input (u.input_failed is))
     by StoreFault is = absurd (no_rise (v.disk_faults life.old) (v.disk_faults life.new) u.disk (u.store_failed is))
-    by OutputFault is = absurd (no_rise (output_faults life.output) (output_faults life.output') u.output (u.output_failed is))
+    by OutputFault is = absurd (no_rise (output_faults life.output) (output_faults life.output') u.output
+        (u.output_failed is))
     by (NotAStore version place) is = absurd (subst IsOfStore is of_store)

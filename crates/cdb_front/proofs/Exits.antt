@@ -19,13 +19,13 @@ use Rattle.cdb_crash.specs.Crash.{IsEither}
 use Rattle.cdb_files.specs.Disk as disk
 use Rattle.cdb_files.specs.Disk.{IsImage}
 use Rattle.cdb_files.specs.Moments.{AddsOnly}
-use Rattle.cdb_front.specs.EntryStore.{IsStore, HasStore, IsKnown}
+use Rattle.cdb_engine.specs.Store.{IsStore}
+use Rattle.cdb_front.specs.EntryStore.{HasStore, IsKnown}
 use Rattle.cdb_front.specs.Followed.{Sight, IsLeftBy, IsFollowed, IsBegun}
-use Rattle.cdb_front.specs.RunOutcome.{EndsFrom, EndsWith, Stops, Outcome, WasOpened, IsOfStore, StandsAtExit, IsAtRest, RestsAt}
+use Rattle.cdb_front.specs.RunOutcome.{EndsFrom, EndsWith, Stops, Outcome, WasOpened, IsClosed, IsOfStore, StandsAtExit, IsAtRest, RestsAt}
 use Rattle.cdb_front.specs.RunProgress.{Entry, Holds, Runs, Ordered, Told, base_of}
 use Rattle.cdb_front.specs.declared.exit_status.Status.{Status}
 use Rattle.cdb_front.specs.declared.exit_status.Status.TheVariants.{Done, Memory, Usage, InputFault, OutputFault, StoreFault, NotAStore, TooLong}
-use Rattle.cdb_front.proofs.RunEnds.{IsClosed}
 
 -- ---- what is acknowledged
 
@@ -34,7 +34,8 @@ pub record IsAcknowledged (complete kept : List Publication) : Type 0 where
   pub rest : List Publication
   pub joined : complete ≡ kept ++ rest
 
-pub kept_first : (Has : Text → Content → Type 0) (list : List Publication) (s : State) (items : List Item) (answers : List Answer)
+pub kept_first : (Has : Text → Content → Type 0) (list : List Publication) (s : State) (items : List Item)
+    (answers : List Answer)
     (begun : List Publication) (wrote : Text) → Run Has (start_at list) items answers s → (h : HasBegun list s begun)
     → IsAcknowledged h.complete (acknowledged begun answers wrote)
 kept_first Has list s items answers begun wrote run h =
@@ -45,10 +46,18 @@ kept_first Has list s items answers begun wrote run h =
     }
 
 -- a map that stands for the complete ones, or for these and one that wasn't complete
-kept_old : (list complete later begun kept : List Publication) (m : FileMap) → begun ≡ complete ++ later → IsAcknowledged complete kept
+kept_old : (list complete later begun kept : List Publication) (m : FileMap) → begun ≡ complete ++ later
+    → IsAcknowledged complete kept
     → Stands m (list ++ complete) → StandsKept list begun kept m
 kept_old list complete later begun kept m begun_is first stands =
-    record { first = complete; later = later; more = first.rest; joined = begun_is; holds = first.joined; stands = stands }
+    record {
+      first = complete;
+      later = later;
+      more = first.rest;
+      joined = begun_is;
+      holds = first.joined;
+      stands = stands;
+    }
 
 kept_new : (list complete begun kept : List Publication) (x : Publication) (m : FileMap) → begun ≡ complete ++ x ∷ []
     → IsAcknowledged complete kept → Stands m ((list ++ complete) ++ x ∷ []) → StandsKept list begun kept m
@@ -63,21 +72,28 @@ kept_new list complete begun kept x m begun_is first stands =
     }
 
 -- at the end of a run
-exit_kept : (list : List Publication) (s : State) (d : disk.State) (begun kept : List Publication) → (h : HasBegun list s begun)
+exit_kept : (list : List Publication) (s : State) (d : disk.State) (begun kept : List Publication)
+    → (h : HasBegun list s begun)
     → IsLeftBy s d → IsAcknowledged h.complete kept → (m : FileMap) → IsImage d m → StandsKept list begun kept m
 exit_kept list s d begun kept h left first m image = by s.halted refl h.begun_is
   where
-    gave_up : (now : Option Going) (x : Publication) → s.going ≡ now → s.halted ≡ Some x → begun ≡ h.complete ++ unfinished now (Some x) → IsEither Stands s.list x m
+    gave_up : (now : Option Going) (x : Publication) → s.going ≡ now → s.halted ≡ Some x
+        → begun ≡ h.complete ++ unfinished now (Some x) → IsEither Stands s.list x m
         → StandsKept list begun kept m
-    gave_up now x g e b (inl stands) = kept_old list h.complete (unfinished now (Some x)) begun kept m b first (subst (Stands m) h.list_is stands)
-    gave_up None x g e b (inr stands) = kept_new list h.complete begun kept x m b first (subst (λ (l : List Publication). Stands m (l ++ x ∷ [])) h.list_is stands)
+    gave_up now x g e b (inl stands) = kept_old list h.complete (unfinished now (Some x)) begun kept m b first
+        (subst (Stands m) h.list_is stands)
+    gave_up None x g e b (inr stands) = kept_new list h.complete begun kept x m b first
+        (subst (λ (l : List Publication). Stands m (l ++ x ∷ [])) h.list_is stands)
     gave_up (Some now) x g e b (inr stands) = absurd (left.one now x g e)
 
-    by : (given_up : Option Publication) → s.halted ≡ given_up → begun ≡ h.complete ++ unfinished s.going given_up → StandsKept list begun kept m
-    by None e b = kept_old list h.complete (unfinished s.going None) begun kept m b first (subst (Stands m) h.list_is ((left.whole e).stands m image))
+    by : (given_up : Option Publication) → s.halted ≡ given_up → begun ≡ h.complete ++ unfinished s.going given_up
+        → StandsKept list begun kept m
+    by None e b = kept_old list h.complete (unfinished s.going None) begun kept m b first
+        (subst (Stands m) h.list_is ((left.whole e).stands m image))
     by (Some x) e b = gave_up s.going x refl e b (left.either x e m image)
 
-at_exit : (status : Status) (base : Base) (begun kept : List Publication) (m : FileMap) → StandsKept base.list begun kept m → StandsAtExit status base begun kept m
+at_exit : (status : Status) (base : Base) (begun kept : List Publication) (m : FileMap)
+    → StandsKept base.list begun kept m → StandsAtExit status base begun kept m
 at_exit Done base begun kept m s = s
 at_exit Memory base begun kept m s = inl s
 at_exit Usage base begun kept m s = inl s
@@ -88,8 +104,16 @@ at_exit (NotAStore version place) base begun kept m s = inl s
 at_exit TooLong base begun kept m s = s
 
 -- the disk that is left
+none_of : (going : Option Going) → ((now : Going) → going ≡ Some now → ⊥) → going ≡ None
+none_of None never = refl
+none_of (Some now) never = absurd (never now refl)
+
 at_rest : (s : State) (d : disk.State) → IsLeftBy s d → IsAtRest s d
-at_rest s d left = record { whole = left.whole; faulted = λ x e clear. record { clear = clear; either = left.either x e } }
+at_rest s d left = record {
+  whole = left.whole;
+  faulted = λ x e clear. record { clear = clear; either = left.either x e };
+  idle = λ x e. none_of s.going (λ now g. left.one now x g e);
+}
 
 rests_at : (status : Status) (s : State) (d : disk.State) → IsAtRest s d → RestsAt status s d
 rests_at Done s d r = r
@@ -112,10 +136,12 @@ opened_store (NotAStore version place) o = absurd o
 opened_store TooLong o = tt
 
 -- a run that is followed has ended
-pub ended : (Has : Text → Content → Type 0) (tells : Type 0) (from : Option Base) (status : Status) (items : List Item) (answers : List Answer) (wrote : Text)
+pub ended : (Has : Text → Content → Type 0) (tells : Type 0) (from : Option Base) (status : Status) (items : List Item)
+    (answers : List Answer) (wrote : Text)
     (moment : ℕ) (Since : ℕ → FileMap → Type 0) (entry d : disk.State) (Now : Base → State → Type 0)
     → ((base : Base) (s : State) → Now base s → IsFollowed base s (Since base.moment) d)
-    → WasOpened status → IsKnown tells from moment entry → Runs Has from items answers (Now (base_of from)) → EndsFrom Has from status items answers wrote (Since moment) d
+    → WasOpened status → IsKnown tells from moment entry → Runs Has from items answers (Now (base_of from))
+    → EndsFrom Has from status items answers wrote (Since moment) d
 ended Has tells None status items answers wrote moment Since entry d Now followed opened knows runs = tt
 ended Has tells (Some base) status items answers wrote moment Since entry d Now followed opened knows runs =
     let f = followed base runs.next runs.now in
@@ -127,7 +153,8 @@ ended Has tells (Some base) status items answers wrote moment Since entry d Now 
       has_begun = f.has_begun;
       since = λ m was. f.since m (subst (λ (t : ℕ). Since t m) (sym knows.now) was);
       at_exit = λ m image. at_exit status base f.begun (acknowledged f.begun answers wrote) m
-          (exit_kept base.list runs.next d f.begun (acknowledged f.begun answers wrote) f.has_begun f.left first m image);
+          (exit_kept base.list runs.next d f.begun (acknowledged f.begun answers wrote) f.has_begun f.left
+          first m image);
       rests = rests_at status runs.next d (at_rest runs.next d f.left);
       of_store = opened_store status opened;
     }
@@ -140,13 +167,18 @@ Starts None Now = Unit {0}
 Starts (Some base) Now = Now (start_at base.list)
 
 -- nothing was answered yet
-pub told_begins : {tells : Type 0} (e : Entry) (faults : ℕ) (Now : Sight) → e.disk ≤ faults → Starts e.from (Now known) → IsBegun (Now any)
+pub told_begins : {tells : Type 0} (e : Entry) (faults : ℕ) (Now : Sight) → e.disk ≤ faults → Starts e.from (Now known)
+    → IsBegun (Now any)
     → Told tells e [] e.written e.shelf faults Now
 told_begins {tells = tells} e faults Now later begins fresh =
     record {
       answers = [];
       run = by e.from begins;
-      order = record { start = fresh.start; fresh = fresh.fresh; leads = record { next = fresh.start; step = (refl, refl); now = fresh.now } };
+      order = record {
+        start = fresh.start;
+        fresh = fresh.fresh;
+        leads = record { next = fresh.start; step = (refl, refl); now = fresh.now };
+      };
       shelf_counted = λ short. omega arith;
       disk_counted = λ short. omega arith;
       appended = Appends-nil e.written;
@@ -158,18 +190,21 @@ told_begins {tells = tells} e faults Now later begins fresh =
 
 -- where the store is known, an engine that was opened begins with its list
 pub opens : (tells : Type 0) (moment : ℕ) (entry : disk.State) (from : Option Base) (Now : Base → State → Type 0)
-    → IsKnown tells from moment entry → ((base : Base) → HasStore tells base moment entry → Now base (start_at base.list)) → Starts from (Now (base_of from))
+    → IsKnown tells from moment entry → ((base : Base) → HasStore tells base moment entry
+    → Now base (start_at base.list)) → Starts from (Now (base_of from))
 opens tells moment entry None Now knows begins = tt
 opens tells moment entry (Some base) Now knows begins = begins base knows
 
 -- ---- no store was opened
 
 -- what a crash leaves of a store stands for its list, or for one of the early ones
-of_entry : (list : List Publication) (early : List (List Publication)) (d : disk.State) (m : FileMap) → IsStore list early d → IsImage d m → StandsForOne (list ∷ early) m
+of_entry : (list : List Publication) (early : List (List Publication)) (d : disk.State) (m : FileMap)
+    → IsStore list early d → IsImage d m → StandsForOne (list ∷ early) m
 of_entry list [] d m store image = inl (store.stands m image)
 of_entry list (other ∷ []) d m store image = by store.next (store.faulted.either m image)
   where
-    by : IsNext store.shorter store.x list other → Stands m store.shorter ⊎ Stands m (store.shorter ++ store.x ∷ []) → StandsForOne (list ∷ other ∷ []) m
+    by : IsNext store.shorter store.x list other → Stands m store.shorter ⊎ Stands m (store.shorter ++ store.x ∷ [])
+        → StandsForOne (list ∷ other ∷ []) m
     by (inl e) (inl s) = inl (subst (Stands m) (sym e.0) s)
     by (inl e) (inr s) = inr (inl (subst (Stands m) (sym e.1) s))
     by (inr e) (inl s) = inr (inl (subst (Stands m) (sym e.1) s))
@@ -177,27 +212,43 @@ of_entry list (other ∷ []) d m store image = by store.next (store.faulted.eith
 of_entry list (a ∷ b ∷ early) d m store image = absurd store
 
 -- whatever a crash left since the beginning stands for the list, or for one of the early ones
-pub early_since : {D : Type 0} (clock : D → ℕ) (since : D → ℕ → FileMap → Type 0) (state : D → disk.State) (old new : D) (base : Base) (begun : List Publication) → base.moment ≡ clock old → IsStore base.list base.early (state old)
-    → AddsOnly clock since old new (StandsForOne (base.list ∷ base.early)) → ((m : FileMap) → since old (clock old) m → IsImage (state old) m) → (m : FileMap) → since new base.moment m → StandsSince base begun m
+pub early_since : {D : Type 0} (clock : D → ℕ) (since : D → ℕ → FileMap → Type 0) (state : D → disk.State) (old new : D)
+    (base : Base) (begun : List Publication) → base.moment ≡ clock old → IsStore base.list base.early (state old)
+    → AddsOnly clock since old new (StandsForOne (base.list ∷ base.early))
+    → ((m : FileMap) → since old (clock old) m → IsImage (state old) m) → (m : FileMap) → since new base.moment m
+    → StandsSince base begun m
 early_since clock since state old new base begun now store adds only_now m was =
     by (adds.nothing_else base.moment m (let n = now in omega (arith, n)) was)
   where
     one : StandsForOne (base.list ∷ base.early) m → StandsSince base begun m
-    one (inl stands) = inl record { first = []; later = begun; joined = refl; stands = subst (Stands m) (sym (append-nil base.list)) stands }
+    one (inl stands) = inl record {
+      first = [];
+      later = begun;
+      joined = refl;
+      stands = subst (Stands m) (sym (append-nil base.list)) stands;
+    }
     one (inr early) = inr early
 
     by : since old base.moment m ⊎ StandsForOne (base.list ∷ base.early) m → StandsSince base begun m
-    by (inl before) = one (of_entry base.list base.early (state old) m store (only_now m (subst (λ (t : ℕ). since old t m) now before)))
+    by (inl before) = one (of_entry base.list base.early (state old) m store
+        (only_now m (subst (λ (t : ℕ). since old t m) now before)))
     by (inr during) = one during
 
-take-none : (n : ℕ) (l : List Publication) → l ≡ [] → take n l ≡ []
+pub take-none : (n : ℕ) (l : List Publication) → l ≡ [] → take n l ≡ []
 take-none zero l e = refl
 take-none (suc n) [] e = refl
 take-none (suc n) (x ∷ l) e = cc
 
 -- a store of which nothing was read
 abbrev pub nothing_yet : StateIn any_store
-nothing_yet = record { list = record { versions = 0; entries = 0 }; pending = []; going = None; halted = None; sessions = []; opened = 0 }
+nothing_yet = record {
+  list = record { versions = 0; entries = 0 };
+  pending = [];
+  going = None;
+  halted = None;
+  sessions = [];
+  opened = 0;
+}
 
 fresh_yet : IsFreshIn any_store nothing_yet
 fresh_yet = record { pending = refl; going = refl; halted = refl; sessions = refl; opened = refl }
@@ -211,8 +262,10 @@ starts_shut : (from : Option Base) → Starts from (Shut from known)
 starts_shut None = tt
 starts_shut (Some base) = refl
 
-pub told_shut : {tells : Type 0} (e : Entry) (faults : ℕ) → e.disk ≤ faults → Told tells e [] e.written e.shelf faults (Shut e.from)
-told_shut e faults later = told_begins e faults (Shut e.from) later (starts_shut e.from) record { start = nothing_yet; fresh = fresh_yet; now = tt }
+pub told_shut : {tells : Type 0} (e : Entry) (faults : ℕ) → e.disk ≤ faults
+    → Told tells e [] e.written e.shelf faults (Shut e.from)
+told_shut e faults later = told_begins e faults (Shut e.from) later (starts_shut e.from) record
+    { start = nothing_yet; fresh = fresh_yet; now = tt }
 
 rests_shut : (status : Status) (s : State) (d : disk.State) → IsClosed status → RestsAt status s d
 rests_shut Done s d c = absurd c
@@ -224,7 +277,8 @@ rests_shut StoreFault s d c = tt
 rests_shut (NotAStore version place) s d c = tt
 rests_shut TooLong s d c = absurd c
 
-exit_shut : (status : Status) (base : Base) (kept : List Publication) (m : FileMap) → IsClosed status → StandsKept base.list [] kept m ⊎ StandsForOne base.early m
+exit_shut : (status : Status) (base : Base) (kept : List Publication) (m : FileMap) → IsClosed status
+    → StandsKept base.list [] kept m ⊎ StandsForOne base.early m
     → StandsAtExit status base [] kept m
 exit_shut Done base kept m c s = absurd c
 exit_shut Memory base kept m c s = s
@@ -236,14 +290,21 @@ exit_shut (NotAStore version place) base kept m c s = s
 exit_shut TooLong base kept m c s = absurd c
 
 -- the run ended in opening: every image stands for the list, or for one of the early ones
-pub closed : {D : Type 0} (tells : Type 0) (Has : Text → Content → Type 0) (clock : D → ℕ) (since : D → ℕ → FileMap → Type 0) (state : D → disk.State) (old new : D) (from : Option Base) (status : Status)
+pub closed : {D : Type 0} (tells : Type 0) (Has : Text → Content → Type 0) (clock : D → ℕ)
+    (since : D → ℕ → FileMap → Type 0) (state : D → disk.State) (old new : D) (from : Option Base) (status : Status)
     (items : List Item) (answers : List Answer) (wrote : Text) → IsClosed status
-    → (tells → (list : List Publication) (early : List (List Publication)) → IsStore list early (state old) → IsOfStore status) → IsKnown tells from (clock old) (state old)
-    → (tells → (list : List Publication) (early : List (List Publication)) → IsStore list early (state old) → AddsOnly clock since old new (StandsForOne (list ∷ early)))
-    → ((m : FileMap) → since old (clock old) m → IsImage (state old) m) → ((m : FileMap) → clock old ≤ clock new → IsImage (state new) m → since new (clock old) m)
-    → Runs Has from items answers (Shut from known) → EndsFrom Has from status items answers wrote (since new (clock old)) (state new)
-closed tells Has clock since state old new None status items answers wrote shut of_store knows moments only_now counts_now runs = tt
-closed tells Has clock since state old new (Some base) status items answers wrote shut of_store knows moments only_now counts_now runs =
+    → (tells → (list : List Publication) (early : List (List Publication)) → IsStore list early (state old)
+    → IsOfStore status) → IsKnown tells from (clock old) (state old)
+    → (tells → (list : List Publication) (early : List (List Publication)) → IsStore list early (state old)
+    → AddsOnly clock since old new (StandsForOne (list ∷ early)))
+    → ((m : FileMap) → since old (clock old) m → IsImage (state old) m)
+    → ((m : FileMap) → clock old ≤ clock new → IsImage (state new) m → since new (clock old) m)
+    → Runs Has from items answers (Shut from known)
+    → EndsFrom Has from status items answers wrote (since new (clock old)) (state new)
+closed tells Has clock since state old new None status items answers wrote shut of_store knows moments only_now
+    counts_now runs = tt
+closed tells Has clock since state old new (Some base) status items answers wrote shut of_store knows moments only_now
+    counts_now runs =
     record {
       state = runs.next;
       run = runs.step;
@@ -263,7 +324,8 @@ closed tells Has clock since state old new (Some base) status items answers wrot
     adds = moments knows.told base.list base.early knows.store
 
     since_entry : (m : FileMap) → since new (clock old) m → StandsSince base [] m
-    since_entry m was = early_since clock since state old new base [] knows.now knows.store adds only_now m (subst (λ (t : ℕ). since new t m) (sym knows.now) was)
+    since_entry m was = early_since clock since state old new base [] knows.now knows.store adds only_now m
+        (subst (λ (t : ℕ). since new t m) (sym knows.now) was)
 
     kept : List Publication
     kept = acknowledged [] answers wrote
@@ -274,19 +336,29 @@ closed tells Has clock since state old new (Some base) status items answers wrot
       later = s.later;
       more = s.first;
       joined = s.joined;
-      holds = sym (ap (λ (l : List Publication). l ++ s.first) (take-none (tally completes (whole_answers answers wrote)) [] refl));
+      holds = sym (ap (λ (l : List Publication). l ++ s.first)
+          (take-none (tally completes (whole_answers answers wrote)) [] refl));
       stands = s.stands;
     }
     either m (inr e) = inr e
 
 -- ---- the whole outcome
 
-unlabelled : {Has : Text → Content → Type 0} {items : List Item} {answers : List Answer} {Now : StateIn any_store → Type 0} → Ordered Has items answers Now → Ordered Has items answers (λ s. Unit {0})
-unlabelled o = record { start = o.start; fresh = o.fresh; leads = record { next = o.leads.next; step = o.leads.step; now = tt } }
+unlabelled : {Has : Text → Content → Type 0} {items : List Item} {answers : List Answer}
+    {Now : StateIn any_store → Type 0} → Ordered Has items answers Now → Ordered Has items answers (λ s. Unit {0})
+unlabelled o = record {
+  start = o.start;
+  fresh = o.fresh;
+  leads = record { next = o.leads.next; step = o.leads.step; now = tt };
+}
 
-pub outcome : {tells : Type 0} {e : Entry} {shelf faults : ℕ} {left left' written written' : Option (List ℕ)} {Now : Sight} (status result : Status) (Since : FileMap → Type 0) (d : disk.State)
-    → ((items : List Item) (answers : List Answer) (wrote : Text) → Runs (Holds tells e.files) e.from items answers (Now known) → EndsFrom (Holds tells e.files) e.from status items answers wrote Since d)
-    → Stops tells e shelf faults left left' written Now status → EndsWith status written written' result → Outcome tells e shelf faults left left' written' Since d result
+pub outcome : {tells : Type 0} {e : Entry} {shelf faults : ℕ} {left left' written written' : Option (List ℕ)}
+    {Now : Sight} (status result : Status) (Since : FileMap → Type 0) (d : disk.State)
+    → ((items : List Item) (answers : List Answer) (wrote : Text)
+    → Runs (Holds tells e.files) e.from items answers (Now known)
+    → EndsFrom (Holds tells e.files) e.from status items answers wrote Since d)
+    → Stops tells e shelf faults left left' written Now status → EndsWith status written written' result
+    → Outcome tells e shelf faults left left' written' Since d result
 outcome {written = written} status result Since d ends s line =
     record {
       status = status;
@@ -298,10 +370,16 @@ outcome {written = written} status result Since d ends s line =
     }
 
 -- nothing was opened: the disk is as it was
-pub unopened : {D : Type 0} (tells : Type 0) (Has : Text → Content → Type 0) (clock : D → ℕ) (since : D → ℕ → FileMap → Type 0) (state : D → disk.State) (d : D) (from : Option Base) (status : Status)
-    (items : List Item) (answers : List Answer) (wrote : Text) → IsClosed status → IsOfStore status → IsKnown tells from (clock d) (state d)
-    → ((m : FileMap) → since d (clock d) m → IsImage (state d) m) → ((m : FileMap) → clock d ≤ clock d → IsImage (state d) m → since d (clock d) m)
-    → Runs Has from items answers (Shut from known) → EndsFrom Has from status items answers wrote (since d (clock d)) (state d)
+pub unopened : {D : Type 0} (tells : Type 0) (Has : Text → Content → Type 0) (clock : D → ℕ)
+    (since : D → ℕ → FileMap → Type 0) (state : D → disk.State) (d : D) (from : Option Base) (status : Status)
+    (items : List Item) (answers : List Answer) (wrote : Text) → IsClosed status → IsOfStore status
+    → IsKnown tells from (clock d) (state d)
+    → ((m : FileMap) → since d (clock d) m → IsImage (state d) m)
+    → ((m : FileMap) → clock d ≤ clock d → IsImage (state d) m → since d (clock d) m)
+    → Runs Has from items answers (Shut from known)
+    → EndsFrom Has from status items answers wrote (since d (clock d)) (state d)
 unopened tells Has clock since state d from status items answers wrote shut of_store knows only_now counts_now runs =
-    closed tells Has clock since state d d from status items answers wrote shut (λ told list early store. of_store) knows
-    (λ told list early store. record { later = omega arith; nothing_else = λ t m earlier was. inl was }) only_now counts_now runs
+    closed tells Has clock since state d d from status items answers wrote shut
+    (λ told list early store. of_store) knows
+    (λ told list early store. record { later = omega arith; nothing_else = λ t m earlier was. inl was }) only_now
+    counts_now runs

@@ -13,7 +13,8 @@ kept_said : (kept text : Text) → Some kept ≡ kept_of text → spoken (line_o
 unfolding line_command
 kept_said kept text e = by (nat_le (length text) 4096) e
   where
-    by : (b : Bool) → Some kept ≡ cond b (Some text) None → spoken (line_of kept) ≡ cond b (spoken (line_of text)) said.overlong
+    by : (b : Bool) → Some kept ≡ cond b (Some text) None
+        → spoken (line_of kept) ≡ cond b (spoken (line_of text)) said.overlong
     by true e = let same : kept ≡ text = cc in ap (λ (l : Text). spoken (line_of l)) same
     by false e = cc
 
@@ -27,5 +28,6 @@ too_long text e = by (nat_le (length text) 4096) e
     by false e = refl
 
 -- what is heard in what is kept is heard in the line
-pub kept_says : (kept text : Text) (h : Heard) → Says h (spoken (line_of kept)) → Some kept ≡ kept_of text → Says h (line_command text)
+pub kept_says : (kept text : Text) (h : Heard) → Says h (spoken (line_of kept)) → Some kept ≡ kept_of text
+    → Says h (line_command text)
 kept_says kept text h says e = subst (Says h) (kept_said kept text e) says

@@ -16,7 +16,8 @@ use Rattle.cdb_front.specs.declared.exit_status.Status.{Status}
 use Rattle.cdb_front.specs.declared.exit_status.Status.TheVariants.{Done, Memory, Usage, InputFault, OutputFault, StoreFault, NotAStore, TooLong}
 
 -- a store that nothing else may be left of
-no_early : (aim : Status) (list : List Publication) (moment : ℕ) (begun kept : List Publication) (m : FileMap) → StandsAtExit aim (record { list = list; early = []; moment = moment }) begun kept m → StandsKept list begun kept m
+no_early : (aim : Status) (list : List Publication) (moment : ℕ) (begun kept : List Publication) (m : FileMap)
+    → StandsAtExit aim (record { list = list; early = []; moment = moment }) begun kept m → StandsKept list begun kept m
 no_early Done list moment begun kept m s = s
 no_early Memory list moment begun kept m (inl s) = s
 no_early Memory list moment begun kept m (inr e) = absurd e
@@ -30,26 +31,55 @@ no_early StoreFault list moment begun kept m (inl s) = s
 no_early StoreFault list moment begun kept m (inr e) = absurd e
 no_early TooLong list moment begun kept m s = s
 
-since_early : (list : List Publication) (moment : ℕ) (begun : List Publication) (m : FileMap) → StandsSince (record { list = list; early = []; moment = moment }) begun m → StandsFrom list begun m
+since_early : (list : List Publication) (moment : ℕ) (begun : List Publication) (m : FileMap)
+    → StandsSince (record { list = list; early = []; moment = moment }) begun m → StandsFrom list begun m
 since_early list moment begun m (inl s) = s
 since_early list moment begun m (inr e) = absurd e
 
 -- the list that the map stands for that a stop left
-record Added (v : Devices) (life : Life v) (m : FileMap) (stop : Stops v life m) (opened : List Publication) : Type 0 where
+record Added (v : Devices) (life : Life v) (m : FileMap) (stop : Stops v life m)
+    (opened : List Publication) : Type 0 where
   pub now : List Publication
   pub adds : Adds v life m stop opened now
   pub stands : Stands m now
 
-added : (v : Devices) (life : Life v) (m : FileMap) (stop : Stops v life m) (opened : List Publication) → Goes v life (Some (whole_for v opened life)) → Added v life m stop opened
+added : (v : Devices) (life : Life v) (m : FileMap) (stop : Stops v life m) (opened : List Publication)
+    → Goes v life (Some (whole_for v opened life)) → Added v life m stop opened
 added v life m (amid since) opened goes =
     let s = since_early opened (v.clock life.old) goes.run.begun m (goes.run.since m since) in
-    record { now = opened ++ s.first; adds = record { goes = goes; first = s.first; later = s.later; joined = s.joined; more = s.first; holds = refl; now_is = refl }; stands = s.stands }
+    record {
+      now = opened ++ s.first;
+      adds = record {
+        goes = goes;
+        first = s.first;
+        later = s.later;
+        joined = s.joined;
+        more = s.first;
+        holds = refl;
+        now_is = refl;
+      };
+      stands = s.stands;
+    }
 added v life m (at_end image) opened goes =
-    let s = no_early goes.status opened (v.clock life.old) goes.run.begun (acknowledged goes.run.begun goes.transcript.answers goes.transcript.wrote) m (goes.run.at_exit m image) in
-    record { now = opened ++ s.first; adds = record { goes = goes; first = s.first; later = s.later; joined = s.joined; more = s.more; holds = s.holds; now_is = refl }; stands = s.stands }
+    let s = no_early goes.status opened (v.clock life.old) goes.run.begun
+    (acknowledged goes.run.begun goes.transcript.answers goes.transcript.wrote) m (goes.run.at_exit m image) in
+    record {
+      now = opened ++ s.first;
+      adds = record {
+        goes = goes;
+        first = s.first;
+        later = s.later;
+        joined = s.joined;
+        more = s.more;
+        holds = s.holds;
+        now_is = refl;
+      };
+      stands = s.stands;
+    }
 
 -- a disk on which nothing else is possible is whole
-only_whole : (list : List Publication) (m : FileMap) (d : disk.State) → Stands m list → IsOnly m d → IsWhole Stands list d
+pub only_whole : (list : List Publication) (m : FileMap) (d : disk.State) → Stands m list → IsOnly m d
+    → IsWhole Stands list d
 only_whole list m d stands o =
     record {
       clear = record { gone = λ k few q under gone v a. o.only q v a ∙ sym (o.present q) ∙ gone };
@@ -57,7 +87,9 @@ only_whole list m d stands o =
     }
 
 -- one run more
-next : (v : Devices) (list : List Publication) (last life : Life v) (earlier : List (Life v)) (follow : Follow v list last (life ∷ earlier)) → v.disk_tells → Meets v last → (before : Kept v list life earlier follow.1)
+next : (v : Devices) (list : List Publication) (last life : Life v) (earlier : List (Life v))
+    (follow : Follow v list last (life ∷ earlier)) → v.disk_tells → Meets v last
+    → (before : Kept v list life earlier follow.1)
     → Added v life follow.0.m follow.0.stop before.now → Kept v list last (life ∷ earlier) follow
 next v list last life earlier follow told meets before a =
     record {
@@ -74,15 +106,25 @@ next v list last life earlier follow told meets before a =
     had : List Publication
     had = acked v life follow.0.m before.now follow.0.stop a.adds.goes
 
-    every : (x : Publication) → Contains (acked v life follow.0.m before.now follow.0.stop a.adds.goes) x ⊎ WasAcked v list life earlier follow.1 before.now before.opens x → Contains a.now x
+    every : (x : Publication) → Contains (acked v life follow.0.m before.now follow.0.stop a.adds.goes) x
+        ⊎ WasAcked v list life earlier follow.1 before.now before.opens x → Contains a.now x
     every x (inl c) =
-        subst (λ (l : List Publication). Contains l x) (sym a.adds.now_is) (Contains-append_right before.now a.adds.first x
+        subst (λ (l : List Publication). Contains l x) (sym a.adds.now_is)
+        (Contains-append_right before.now a.adds.first x
         (subst (λ (l : List Publication). Contains l x) (sym a.adds.holds) (Contains-append_left had a.adds.more x c)))
-    every x (inr w) = subst (λ (l : List Publication). Contains l x) (sym a.adds.now_is) (Contains-append_left before.now a.adds.first x (before.every x w))
+    every x (inr w) = subst (λ (l : List Publication). Contains l x) (sym a.adds.now_is)
+        (Contains-append_left before.now a.adds.first x (before.every x w))
 
 pub many : (v : Devices) → Headline v
 many v told list last [] follow meets =
-    record { now = list; opens = refl; every = λ x a. absurd a; store = follow; goes = meets (Some (whole_for v list last)) record { told = told; now = refl; store = follow } }
+    record {
+      now = list;
+      opens = refl;
+      every = λ x a. absurd a;
+      store = follow;
+      goes = meets (Some (whole_for v list last)) record { told = told; now = refl; store = follow };
+    }
 many v told list last (life ∷ earlier) follow meets =
     let before = many v told list life earlier follow.1 meets.1 in
-    next v list last life earlier follow told meets.0 before (added v life follow.0.m follow.0.stop before.now before.goes)
+    next v list last life earlier follow told meets.0 before
+    (added v life follow.0.m follow.0.stop before.now before.goes)

@@ -1,42 +1,64 @@
 -- How a run stops.
-use Rattle.std.proofs.Common.{◌≡◌, ℕ, ◌+◌, ◌<◌, ◌≤◌, ◌^◌, List, [], ◌∷◌, ◌++◌, length, Option, Some, inl, inr, refl, ap, sym, ◌∙◌, append_assoc, append-nil, subst, arith, length-append}
+use Rattle.std.proofs.Common.{◌≡◌, ℕ, ◌+◌, ◌<◌, ◌≤◌, ◌^◌, List, [], ◌∷◌, ◌++◌, length, Option, Some, Err, inl, inr, refl, ap, sym, ◌∙◌, append_assoc, append-nil, subst, arith, length-append}
 use Rattle.std.specs.Io.KnownBytes.{Consumes, IsAtEnd}
 use Rattle.std.proofs.KnownBytes.{Consumes-nil, Consumes-trans}
 use Rattle.cdb_model.specs.AnswerTexts.{texts_of}
 use Rattle.cdb_model.specs.Runs.{items_of}
+use Rattle.cdb_model.specs.Maps.{FileMap}
 use Rattle.cdb_model.specs.Text.{Text}
+use Rattle.cdb_chain.specs.declared.open_error.OpenError.{OpenError}
+use Rattle.cdb_chain.specs.declared.open_error.OpenError.TheVariants as refused
+use Rattle.cdb_engine.specs.Store.{IsFound, TellsNoStore}
 use Rattle.cdb_front.specs.Followed.{Sight}
-use Rattle.cdb_front.specs.RunOutcome.{Stops, Hears, Makes, WritesAnswers, Finishes}
+use Rattle.cdb_front.specs.RunOutcome.{Stops, IsOfStore, Hears, Makes, WritesAnswers, Finishes, SaysNoStore, WasOpened, IsClosed, status_of}
 use Rattle.cdb_front.specs.RunProgress.{Entry, Told, Sofar, Answered, IsQuit, Broken, UpTo}
 use Rattle.cdb_front.specs.RunReading.{Reading}
 use Rattle.cdb_front.specs.declared.exit_status.Status.{Status}
 use Rattle.cdb_front.specs.declared.exit_status.Status.TheVariants.{Done, Memory, Usage, InputFault, OutputFault, StoreFault, NotAStore, TooLong}
 
 -- nothing was read, and nothing answered
-abbrev pub reading_begins : {tells : Type 0} {e : Entry} (left : Option (List ℕ)) {written : Option (List ℕ)} {shelf disk : ℕ}
+abbrev pub reading_begins : {tells : Type 0} {e : Entry} (left : Option (List ℕ)) {written : Option (List ℕ)}
+    {shelf disk : ℕ}
     {Now : Sight} (kept : Option (List ℕ)) → kept ≡ Some [] → Told tells e [] written shelf disk Now
     → Reading tells e left left written shelf disk Now kept 0
 reading_begins left kept fresh told =
     record {
       read = [];
       input = Consumes-nil left;
-      sofar = record { lines = []; rest = []; cut = record { joined = refl; whole = tt; open_end = tt }; no_quit = tt; told = told; kept_is = fresh };
+      sofar = record {
+        lines = [];
+        rest = [];
+        cut = record { joined = refl; whole = tt; open_end = tt };
+        no_quit = tt;
+        told = told;
+        kept_is = fresh;
+      };
       count = refl;
     }
 
 -- the piece was taken whole
-pub reading_more : {tells : Type 0} {e : Entry} {left left' : Option (List ℕ)} (left'' : Option (List ℕ)) {written : Option (List ℕ)} {shelf disk : ℕ} {Old : Sight} {kept : Option (List ℕ)} {taken : ℕ} (count : ℕ)
+pub reading_more : {tells : Type 0} {e : Entry} {left left' : Option (List ℕ)} (left'' : Option (List ℕ))
+    {written : Option (List ℕ)} {shelf disk : ℕ} {Old : Sight} {kept : Option (List ℕ)} {taken : ℕ} (count : ℕ)
     {written' : Option (List ℕ)} {shelf' disk' : ℕ} {New : Sight} {new : Option (List ℕ)} (piece : Text)
-    → (r : Reading tells e left left' written shelf disk Old kept taken) → Consumes left' left'' piece → length piece ≡ count
-    → Sofar tells e (r.read ++ piece) written' shelf' disk' New new → Reading tells e left left'' written' shelf' disk' New new (taken + count)
+    → (r : Reading tells e left left' written shelf disk Old kept taken) → Consumes left' left'' piece
+    → length piece ≡ count
+    → Sofar tells e (r.read ++ piece) written' shelf' disk' New new
+    → Reading tells e left left'' written' shelf' disk' New new (taken + count)
 reading_more {left = left} {left' = left'} left'' count piece r more long s =
-    record { read = r.read ++ piece; input = Consumes-trans left left' left'' r.read piece r.input more; sofar = s; count = omega (arith, r.count, length-append r.read piece) }
+    record {
+      read = r.read ++ piece;
+      input = Consumes-trans left left' left'' r.read piece r.input more;
+      sofar = s;
+      count = omega (arith, r.count, length-append r.read piece);
+    }
 
 -- ---- all that was read was answered
 
 -- the last line that was read was answered too
-done : {tells : Type 0} {e : Entry} (P : Text → Type 0) (read unread : Text) (left left' : Option (List ℕ)) (written : Option (List ℕ)) (shelf disk : ℕ) (Now : Sight)
-    → Consumes left left' (read ++ unread) → length (read ++ unread) ≤ 2 ^ 32 → length unread ≤ 4096 → (a : Answered tells e P read written shelf disk Now)
+done : {tells : Type 0} {e : Entry} (P : Text → Type 0) (read unread : Text) (left left' : Option (List ℕ))
+    (written : Option (List ℕ)) (shelf disk : ℕ) (Now : Sight)
+    → Consumes left left' (read ++ unread) → length (read ++ unread) ≤ 2 ^ 32 → length unread ≤ 4096
+    → (a : Answered tells e P read written shelf disk Now)
     → Finishes Done left' read unread a.rest → Stops tells e shelf disk left left' written Now Done
 done P read unread left left' written shelf disk Now taken few small a finishes =
     record {
@@ -69,8 +91,10 @@ done P read unread left left' written shelf disk Now taken few small a finishes 
     }
 
 -- its answer wasn't written whole
-broken : {tells : Type 0} {e : Entry} (read unread : Text) (left left' : Option (List ℕ)) (written : Option (List ℕ)) (shelf disk : ℕ) (Now : Sight)
-    → Consumes left left' (read ++ unread) → length (read ++ unread) ≤ 2 ^ 32 → length unread ≤ 4096 → (b : Broken tells e read written shelf disk Now)
+broken : {tells : Type 0} {e : Entry} (read unread : Text) (left left' : Option (List ℕ)) (written : Option (List ℕ))
+    (shelf disk : ℕ) (Now : Sight)
+    → Consumes left left' (read ++ unread) → length (read ++ unread) ≤ 2 ^ 32 → length unread ≤ 4096
+    → (b : Broken tells e read written shelf disk Now)
     → Finishes OutputFault left' read unread b.rest → Stops tells e shelf disk left left' written Now OutputFault
 broken read unread left left' written shelf disk Now taken few small b finishes =
     let t = b.torn in
@@ -96,7 +120,16 @@ broken read unread left left' written shelf disk Now taken few small b finishes 
         disk_counted = t.disk_counted;
         wrote = texts_of t.whole ++ t.part;
         appended = t.appended;
-        writes = record { whole = t.whole; last = t.answer; answers_are = refl; part = t.part; rest = t.unwritten; joined = t.joined; short = t.short; wrote_is = refl };
+        writes = record {
+          whole = t.whole;
+          last = t.answer;
+          answers_are = refl;
+          part = t.part;
+          rest = t.unwritten;
+          joined = t.joined;
+          short = t.short;
+          wrote_is = refl;
+        };
         finishes = finishes;
       };
       run = t.run;
@@ -104,63 +137,102 @@ broken read unread left left' written shelf disk Now taken few small b finishes 
     }
 
 -- bytes that were read, and a piece after them up to a line feed
-in_piece : (left left' left'' : Option (List ℕ)) (read front back piece : Text) (taken : ℕ) → piece ≡ front ++ 10 ∷ back → taken ≡ length read
+in_piece : (left left' left'' : Option (List ℕ)) (read front back piece : Text) (taken : ℕ) → piece ≡ front ++ 10 ∷ back
+    → taken ≡ length read
     → Consumes left left' read → Consumes left' left'' piece → taken + length piece ≤ 2 ^ 32 → length piece ≤ 4096
-    → Consumes left left'' ((read ++ front) ++ 10 ∷ back) × (length ((read ++ front) ++ 10 ∷ back) ≤ 2 ^ 32) × (length (read ++ front) < 2 ^ 32) × (length (10 ∷ back) ≤ 4096)
+    → Consumes left left'' ((read ++ front) ++ 10 ∷ back) × (length ((read ++ front) ++ 10 ∷ back) ≤ 2 ^ 32)
+    × (length (read ++ front) < 2 ^ 32) × (length (10 ∷ back) ≤ 4096)
 in_piece left left' left'' read front back piece taken joined count first more room small =
     let few : length ((read ++ front) ++ 10 ∷ back) ≤ 2 ^ 32 =
-    omega (arith, room, count, ap length joined, length-append (read ++ front) (10 ∷ back), length-append read front, length-append front (10 ∷ back)) in
-    let fewer : length (read ++ front) < 2 ^ 32 = omega (arith, few, length-append (read ++ front) (10 ∷ back)) in
-    (subst (Consumes left left'') (ap (λ l. read ++ l) joined ∙ sym (append_assoc read front (10 ∷ back))) (Consumes-trans left left' left'' read piece first more), few, fewer, omega (arith, small, ap length joined, length-append front (10 ∷ back)))
+    omega (
+      arith,
+      room,
+      count,
+      ap length joined,
+      length-append (read ++ front) (10 ∷ back),
+      length-append read front,
+      length-append front (10 ∷ back),
+    ) in
+    let fewer : length (read ++ front) < 2 ^ 32 = omega (arith, few, length-append (read ++ front) (10 ∷ back)) in (
+      subst (Consumes left left'') (ap (λ l. read ++ l) joined ∙ sym (append_assoc read front (10 ∷ back)))
+          (Consumes-trans left left' left'' read piece first more),
+      few,
+      fewer,
+      omega
+          (arith, small, ap length joined, length-append front (10 ∷ back)),
+    )
 
 -- `quit` was among the bytes of a piece
-pub stops_quit : {tells : Type 0} {e : Entry} {left left' : Option (List ℕ)} (left'' : Option (List ℕ)) {written : Option (List ℕ)} {shelf disk : ℕ} {Old : Sight} {kept : Option (List ℕ)} {taken : ℕ}
+pub stops_quit : {tells : Type 0} {e : Entry} {left left' : Option (List ℕ)} (left'' : Option (List ℕ))
+    {written : Option (List ℕ)} {shelf disk : ℕ} {Old : Sight} {kept : Option (List ℕ)} {taken : ℕ}
     (written' : Option (List ℕ)) (shelf' disk' : ℕ) (New : Sight) (piece : Text)
-    → (r : Reading tells e left left' written shelf disk Old kept taken) → Consumes left' left'' piece → taken + length piece ≤ 2 ^ 32 → length piece ≤ 4096
-    → UpTo piece (λ front. Answered tells e IsQuit (r.read ++ front) written' shelf' disk' New) → Stops tells e shelf' disk' left left'' written' New Done
+    → (r : Reading tells e left left' written shelf disk Old kept taken) → Consumes left' left'' piece
+    → taken + length piece ≤ 2 ^ 32 → length piece ≤ 4096
+    → UpTo piece (λ front. Answered tells e IsQuit (r.read ++ front) written' shelf' disk' New)
+    → Stops tells e shelf' disk' left left'' written' New Done
 stops_quit {left = left} {left' = left'} left'' {taken = taken} written' shelf' disk' New piece r more room small up =
     let p = in_piece left left' left'' r.read up.front up.back piece taken up.joined r.count r.input more room small in
-    done IsQuit (r.read ++ up.front) (10 ∷ up.back) left left'' written' shelf' disk' New p.0 p.1 p.3 up.reached (p.2, inr (up.reached.last, (up.back, refl)))
+    done IsQuit (r.read ++ up.front) (10 ∷ up.back) left left'' written' shelf' disk' New p.0 p.1 p.3 up.reached
+    (p.2, inr (up.reached.last, (up.back, refl)))
 
 -- an answer to a line of a piece wasn't written whole
-pub stops_broken : {tells : Type 0} {e : Entry} {left left' : Option (List ℕ)} (left'' : Option (List ℕ)) {written : Option (List ℕ)} {shelf disk : ℕ} {Old : Sight} {kept : Option (List ℕ)} {taken : ℕ}
+pub stops_broken : {tells : Type 0} {e : Entry} {left left' : Option (List ℕ)} (left'' : Option (List ℕ))
+    {written : Option (List ℕ)} {shelf disk : ℕ} {Old : Sight} {kept : Option (List ℕ)} {taken : ℕ}
     (written' : Option (List ℕ)) (shelf' disk' : ℕ) (New : Sight) (piece : Text)
-    → (r : Reading tells e left left' written shelf disk Old kept taken) → Consumes left' left'' piece → taken + length piece ≤ 2 ^ 32 → length piece ≤ 4096
-    → UpTo piece (λ front. Broken tells e (r.read ++ front) written' shelf' disk' New) → Stops tells e shelf' disk' left left'' written' New OutputFault
+    → (r : Reading tells e left left' written shelf disk Old kept taken) → Consumes left' left'' piece
+    → taken + length piece ≤ 2 ^ 32 → length piece ≤ 4096
+    → UpTo piece (λ front. Broken tells e (r.read ++ front) written' shelf' disk' New)
+    → Stops tells e shelf' disk' left left'' written' New OutputFault
 stops_broken {left = left} {left' = left'} left'' {taken = taken} written' shelf' disk' New piece r more room small up =
     let p = in_piece left left' left'' r.read up.front up.back piece taken up.joined r.count r.input more room small in
-    broken (r.read ++ up.front) (10 ∷ up.back) left left'' written' shelf' disk' New p.0 p.1 p.3 up.reached (p.2, inr (up.back, refl))
+    broken (r.read ++ up.front) (10 ∷ up.back) left left'' written' shelf' disk' New p.0 p.1 p.3 up.reached
+    (p.2, inr (up.back, refl))
 
 -- bytes that were read, and nothing after them
-at_end : (left left' left'' : Option (List ℕ)) (read : Text) (taken : ℕ) → taken ≡ length read → Consumes left left' read → Consumes left' left'' [] → taken ≤ 2 ^ 32
+at_end : (left left' left'' : Option (List ℕ)) (read : Text) (taken : ℕ) → taken ≡ length read
+    → Consumes left left' read → Consumes left' left'' [] → taken ≤ 2 ^ 32
     → Consumes left left'' (read ++ []) × (length (read ++ []) ≤ 2 ^ 32)
 at_end left left' left'' read taken count first more room =
-    let n = ap length (append-nil read) in (Consumes-trans left left' left'' read [] first more, omega (arith, room, count, n))
+    let n = ap length (append-nil read) in (
+      Consumes-trans left left' left'' read [] first more,
+      omega
+          (arith, room, count, n),
+    )
 
 -- the last line, which no line feed ends, was answered at the end of the input
-pub stops_done : {tells : Type 0} {e : Entry} (P : Text → Type 0) {left left' : Option (List ℕ)} (left'' : Option (List ℕ)) {written : Option (List ℕ)} {shelf disk : ℕ} {Old : Sight} {kept : Option (List ℕ)} {taken : ℕ}
+pub stops_done : {tells : Type 0} {e : Entry} (P : Text → Type 0) {left left' : Option (List ℕ)}
+    (left'' : Option (List ℕ)) {written : Option (List ℕ)} {shelf disk : ℕ} {Old : Sight}
+    {kept : Option (List ℕ)} {taken : ℕ}
     (written' : Option (List ℕ)) (shelf' disk' : ℕ) (New : Sight)
-    → (r : Reading tells e left left' written shelf disk Old kept taken) → Consumes left' left'' [] → taken < 2 ^ 32 → IsAtEnd left''
+    → (r : Reading tells e left left' written shelf disk Old kept taken) → Consumes left' left'' [] → taken < 2 ^ 32
+    → IsAtEnd left''
     → Answered tells e P r.read written' shelf' disk' New → Stops tells e shelf' disk' left left'' written' New Done
 stops_done P {left = left} {left' = left'} left'' {taken = taken} written' shelf' disk' New r more room end a =
     let p = at_end left left' left'' r.read taken r.count r.input more (omega (arith, room)) in
-    done P r.read [] left left'' written' shelf' disk' New p.0 p.1 (omega arith) a (subst (λ n. n < 2 ^ 32) r.count room, inl (refl, end))
+    done P r.read [] left left'' written' shelf' disk' New p.0 p.1 (omega arith) a
+    (subst (λ n. n < 2 ^ 32) r.count room, inl (refl, end))
 
-pub stops_broken_at_end : {tells : Type 0} {e : Entry} {left left' : Option (List ℕ)} (left'' : Option (List ℕ)) {written : Option (List ℕ)} {shelf disk : ℕ} {Old : Sight} {kept : Option (List ℕ)} {taken : ℕ}
+pub stops_broken_at_end : {tells : Type 0} {e : Entry} {left left' : Option (List ℕ)} (left'' : Option (List ℕ))
+    {written : Option (List ℕ)} {shelf disk : ℕ} {Old : Sight} {kept : Option (List ℕ)} {taken : ℕ}
     (written' : Option (List ℕ)) (shelf' disk' : ℕ) (New : Sight)
-    → (r : Reading tells e left left' written shelf disk Old kept taken) → Consumes left' left'' [] → taken < 2 ^ 32 → IsAtEnd left''
+    → (r : Reading tells e left left' written shelf disk Old kept taken) → Consumes left' left'' [] → taken < 2 ^ 32
+    → IsAtEnd left''
     → Broken tells e r.read written' shelf' disk' New → Stops tells e shelf' disk' left left'' written' New OutputFault
 stops_broken_at_end {left = left} {left' = left'} left'' {taken = taken} written' shelf' disk' New r more room end b =
     let p = at_end left left' left'' r.read taken r.count r.input more (omega (arith, room)) in
-    broken r.read [] left left'' written' shelf' disk' New p.0 p.1 (omega arith) b (subst (λ n. n < 2 ^ 32) r.count room, inl (refl, end))
+    broken r.read [] left left'' written' shelf' disk' New p.0 p.1 (omega arith) b
+    (subst (λ n. n < 2 ^ 32) r.count room, inl (refl, end))
 
 -- ---- the whole lines alone were answered
 
 -- no more is read: the input failed, or is too long, or no store was opened
-cut_off : {tells : Type 0} {e : Entry} {left left' written : Option (List ℕ)} {shelf disk : ℕ} {Now : Sight} {kept : Option (List ℕ)} {taken : ℕ} (status : Status) (left'' : Option (List ℕ))
+cut_off : {tells : Type 0} {e : Entry} {left left' written : Option (List ℕ)} {shelf disk : ℕ} {Now : Sight}
+    {kept : Option (List ℕ)} {taken : ℕ} (status : Status) (left'' : Option (List ℕ))
     → (r : Reading tells e left left' written shelf disk Now kept taken) → Consumes left' left'' [] → taken ≤ 2 ^ 32
-    → (heard : List Text) → Hears status r.sofar.lines r.sofar.rest heard → items_of e.most heard ≡ items_of e.most r.sofar.lines → Makes status []
-    → WritesAnswers status r.sofar.told.answers (texts_of r.sofar.told.answers) → Finishes status left'' r.read [] r.sofar.rest
+    → (heard : List Text) → Hears status r.sofar.lines r.sofar.rest heard
+    → items_of e.most heard ≡ items_of e.most r.sofar.lines → Makes status []
+    → WritesAnswers status r.sofar.told.answers (texts_of r.sofar.told.answers)
+    → Finishes status left'' r.read [] r.sofar.rest
     → Stops tells e shelf disk left left'' written Now status
 cut_off {left = left} {left' = left'} {taken = taken} status left'' r more few heard hears same makes writes finishes =
     let p = at_end left left' left'' r.read taken r.count r.input more few in
@@ -193,25 +265,25 @@ cut_off {left = left} {left' = left'} {taken = taken} status left'' r more few h
       order = r.sofar.told.order;
     }
 
-pub stops_input : {tells : Type 0} {e : Entry} {left left' written : Option (List ℕ)} {shelf disk : ℕ} {Now : Sight} {kept : Option (List ℕ)} {taken : ℕ} (left'' : Option (List ℕ))
-    → (r : Reading tells e left left' written shelf disk Now kept taken) → Consumes left' left'' [] → taken < 2 ^ 32 → Stops tells e shelf disk left left'' written Now InputFault
+pub stops_input : {tells : Type 0} {e : Entry} {left left' written : Option (List ℕ)} {shelf disk : ℕ} {Now : Sight}
+    {kept : Option (List ℕ)} {taken : ℕ} (left'' : Option (List ℕ))
+    → (r : Reading tells e left left' written shelf disk Now kept taken) → Consumes left' left'' [] → taken < 2 ^ 32
+    → Stops tells e shelf disk left left'' written Now InputFault
 stops_input left'' r more room =
-    cut_off InputFault left'' r more (omega (arith, room)) r.sofar.lines refl refl refl refl (refl, subst (λ n. n < 2 ^ 32) r.count room)
+    cut_off InputFault left'' r more (omega (arith, room)) r.sofar.lines refl refl refl refl
+    (refl, subst (λ n. n < 2 ^ 32) r.count room)
 
-pub stops_long : {tells : Type 0} {e : Entry} {left left' written : Option (List ℕ)} {shelf disk : ℕ} {Now : Sight} {kept : Option (List ℕ)} {taken : ℕ}
-    → (r : Reading tells e left left' written shelf disk Now kept taken) → taken ≡ 2 ^ 32 → Stops tells e shelf disk left left' written Now TooLong
+pub stops_long : {tells : Type 0} {e : Entry} {left left' written : Option (List ℕ)} {shelf disk : ℕ} {Now : Sight}
+    {kept : Option (List ℕ)} {taken : ℕ}
+    → (r : Reading tells e left left' written shelf disk Now kept taken) → taken ≡ 2 ^ 32
+    → Stops tells e shelf disk left left' written Now TooLong
 stops_long {left' = left'} r all =
-    cut_off TooLong left' r (Consumes-nil left') (omega (arith, all)) r.sofar.lines refl refl refl refl (refl, sym r.count ∙ all)
+    cut_off TooLong left' r (Consumes-nil left') (omega (arith, all)) r.sofar.lines refl refl refl refl
+    (refl, sym r.count ∙ all)
 
 -- the store wasn't opened
-abbrev pub IsClosed : Status → Type 0
-IsClosed Memory = Unit {0}
-IsClosed Usage = Unit {0}
-IsClosed StoreFault = Unit {0}
-IsClosed (NotAStore version place) = Unit {0}
-IsClosed status = ⊥
-
-pub stops_closed : {tells : Type 0} {e : Entry} (status : Status) (left written : Option (List ℕ)) (shelf disk : ℕ) (Now : Sight) → IsClosed status
+pub stops_closed : {tells : Type 0} {e : Entry} (status : Status) (left written : Option (List ℕ)) (shelf disk : ℕ)
+    (Now : Sight) → IsClosed status
     → Told tells e [] written shelf disk Now → Stops tells e shelf disk left left written Now status
 stops_closed {tells = tells} {e = e} status left written shelf disk Now closed told = by status closed
   where
@@ -222,8 +294,59 @@ stops_closed {tells = tells} {e = e} status left written shelf disk Now closed t
     by Memory c = cut_off Memory left r (Consumes-nil left) (omega arith) [] refl refl refl refl (refl, refl)
     by Usage c = cut_off Usage left r (Consumes-nil left) (omega arith) [] refl refl refl refl (refl, refl)
     by StoreFault c = cut_off StoreFault left r (Consumes-nil left) (omega arith) [] refl refl refl refl (refl, refl)
-    by (NotAStore version place) c = cut_off (NotAStore version place) left r (Consumes-nil left) (omega arith) [] refl refl refl refl (refl, refl)
+    by (NotAStore version place) c = cut_off (NotAStore version place) left r (Consumes-nil left) (omega arith) [] refl
+        refl refl refl (refl, refl)
     by Done c = absurd c
     by InputFault c = absurd c
     by OutputFault c = absurd c
     by TooLong c = absurd c
+
+-- ---- no store
+
+-- a run that ends with another status than it aimed at says nothing of the store
+pub says_no_store : (tells : Type 0) (present : FileMap) (status result : Status)
+    → ((result ≡ OutputFault → ⊥) → result ≡ status) → SaysNoStore tells present status
+    → SaysNoStore tells present result
+says_no_store tells present status OutputFault same says = tt
+says_no_store tells present status Done same says = tt
+says_no_store tells present status Memory same says = tt
+says_no_store tells present status Usage same says = tt
+says_no_store tells present status InputFault same says = tt
+says_no_store tells present status StoreFault same says = tt
+says_no_store tells present status TooLong same says = tt
+says_no_store tells present status (NotAStore version place) same says =
+    subst (λ (x : Status). SaysNoStore tells present x) (sym (same (λ e. cc))) says
+
+-- nor does one that opened it
+pub opened_says : (tells : Type 0) (present : FileMap) (status : Status) → WasOpened status
+    → SaysNoStore tells present status
+opened_says tells present Done o = tt
+opened_says tells present Memory o = tt
+opened_says tells present Usage o = tt
+opened_says tells present InputFault o = tt
+opened_says tells present OutputFault o = tt
+opened_says tells present StoreFault o = tt
+opened_says tells present TooLong o = tt
+opened_says tells present (NotAStore version place) o = absurd o
+
+-- a store that wasn't opened
+pub unopened_of_store : (error : OpenError) (status : Status) → status ≡ status_of error → IsFound error
+    → IsOfStore status
+unopened_of_store error status is found = subst (λ (x : Status). IsOfStore x) (sym is) (by error found)
+  where
+    by : (error : OpenError) → IsFound error → IsOfStore (status_of error)
+    by refused.Memory found = tt
+    by refused.Fault found = tt
+    by (refused.NotAStore version place) found = absurd found
+
+pub unopened_says : (T : Type 0) (tells : Type 0) (present : FileMap) (error : OpenError) (status : Status)
+    → status ≡ status_of error
+    → TellsNoStore {T = T} tells present (Err error) → SaysNoStore tells present status
+unopened_says T tells present error status is told = subst (λ (x : Status). SaysNoStore tells present x) (sym is)
+    (by error told)
+  where
+    by : (error : OpenError) → TellsNoStore {T = T} tells present (Err error)
+        → SaysNoStore tells present (status_of error)
+    by refused.Memory told = tt
+    by refused.Fault told = tt
+    by (refused.NotAStore version place) told = told

@@ -24,7 +24,8 @@ use Rattle.cdb_model.specs.declared.line.Line.{Line}
 use Rattle.cdb_model.specs.declared.line.Line.TheVariants as line
 use Rattle.cdb_front.specs.AnswerMeanings.{meant, IsQuiet}
 use Rattle.cdb_front.specs.Devices.{WritesPart}
-use Rattle.cdb_front.specs.Followed.{Leads, Sight}
+use Rattle.cdb_engine.specs.Tracks.{Leads}
+use Rattle.cdb_front.specs.Followed.{Sight}
 use Rattle.cdb_front.specs.Hearing.{IsEvent, IsAnswered, SaysAsked}
 use Rattle.cdb_front.specs.Kept.{kept_of}
 use Rattle.cdb_front.specs.RunProgress.{Entry, Holds, Runs, Ordered, Told, Torn, TornIn, Speaks, Stammers, SpeaksFed, TellsFed, Sofar, Answered, IsQuit, IsNotQuit, TakesLine, UpTo}
@@ -39,8 +40,10 @@ use Rattle.cdb_front.specs.declared.fed.Fed.TheVariants as fed
 -- ---- runs
 
 -- a run goes on by one item
-pub Run-more : (k : Kind) (Has : Text → Content → Type 0) (old mid new : StateIn k) (items : List Item) (item : Item) (answers now : List machine.Answer)
-    → RunIn k Has old items answers mid → PassesIn k Has mid item now new → RunIn k Has old (items ++ item ∷ []) (answers ++ now) new
+pub Run-more : (k : Kind) (Has : Text → Content → Type 0) (old mid new : StateIn k) (items : List Item) (item : Item)
+    (answers now : List machine.Answer)
+    → RunIn k Has old items answers mid → PassesIn k Has mid item now new
+    → RunIn k Has old (items ++ item ∷ []) (answers ++ now) new
 Run-more k Has old mid new [] item answers now r passes =
     record {
       mid = new;
@@ -60,30 +63,50 @@ Run-more k Has old mid new (i ∷ items) item answers now r passes =
       rest = Run-more k Has r.mid mid new items item r.later now r.rest passes;
     }
 
-Runs-more : (Has : Text → Content → Type 0) (from : Option Base) (items : List Item) (item : Item) (answers now : List machine.Answer) (Now New : State → Type 0)
-    → Runs Has from items answers Now → ((s : State) → Now s → Leads (Passes Has s item now) New) → Runs Has from (items ++ item ∷ []) (answers ++ now) New
+Runs-more : (Has : Text → Content → Type 0) (from : Option Base) (items : List Item) (item : Item)
+    (answers now : List machine.Answer) (Now New : State → Type 0)
+    → Runs Has from items answers Now → ((s : State) → Now s → Leads (Passes Has s item now) New)
+    → Runs Has from (items ++ item ∷ []) (answers ++ now) New
 Runs-more Has None items item answers now Now New runs on = tt
 Runs-more Has (Some base) items item answers now Now New runs on =
     let led = on runs.next runs.now in
-    record { next = led.next; step = Run-more known_store Has (start_at base.list) runs.next led.next items item answers now runs.step led.step; now = led.now }
+    record {
+      next = led.next;
+      step = Run-more known_store Has (start_at base.list) runs.next led.next items item answers
+          now runs.step led.step;
+      now = led.now;
+    }
 
 -- the same whatever the disk holds
-Ordered-more : (Has : Text → Content → Type 0) (items : List Item) (item : Item) (answers now : List machine.Answer) (Now New : StateIn any_store → Type 0)
-    → Ordered Has items answers Now → ((s : StateIn any_store) → Now s → Leads (PassesIn any_store Has s item now) New) → Ordered Has (items ++ item ∷ []) (answers ++ now) New
+Ordered-more : (Has : Text → Content → Type 0) (items : List Item) (item : Item) (answers now : List machine.Answer)
+    (Now New : StateIn any_store → Type 0)
+    → Ordered Has items answers Now → ((s : StateIn any_store) → Now s → Leads (PassesIn any_store Has s item now) New)
+    → Ordered Has (items ++ item ∷ []) (answers ++ now) New
 Ordered-more Has items item answers now Now New o on =
     let led = on o.leads.next o.leads.now in
-    record { start = o.start; fresh = o.fresh; leads = record { next = led.next; step = Run-more any_store Has o.start o.leads.next led.next items item answers now o.leads.step led.step; now = led.now } }
+    record {
+      start = o.start;
+      fresh = o.fresh;
+      leads = record {
+        next = led.next;
+        step = Run-more any_store Has o.start o.leads.next led.next items item answers
+            now o.leads.step led.step;
+        now = led.now;
+      };
+    }
 
 -- ---- texts and counts
 
 texts_of-more : (answers now : List machine.Answer) → texts_of (answers ++ now) ≡ texts_of answers ++ texts_of now
 texts_of-more answers now = flat_map-append text_of answers now
 
-tally-more : (kind : machine.Answer → ℕ) (answers now : List machine.Answer) → tally kind (answers ++ now) ≡ tally kind answers + tally kind now
+tally-more : (kind : machine.Answer → ℕ) (answers now : List machine.Answer)
+    → tally kind (answers ++ now) ≡ tally kind answers + tally kind now
 tally-more kind [] now = omega arith
 tally-more kind (a ∷ answers) now = let rest = tally-more kind answers now in omega (arith, rest)
 
-Counts-more : (kind : machine.Answer → ℕ) (before since now : ℕ) (answers more : List machine.Answer) → Counts kind before since answers → Counts kind since now more → Counts kind before now (answers ++ more)
+Counts-more : (kind : machine.Answer → ℕ) (before since now : ℕ) (answers more : List machine.Answer)
+    → Counts kind before since answers → Counts kind since now more → Counts kind before now (answers ++ more)
 Counts-more kind before since now answers more first second short =
     let later : since + tally kind more ≤ now = second short in
     let earlier : before + tally kind answers ≤ since = first (omega arith) in
@@ -92,64 +115,97 @@ Counts-more kind before since now answers more first second short =
 
 -- ---- one item more
 
-pub told_more : {tells : Type 0} {e : Entry} {items : List Item} {written : Option (List ℕ)} {shelf disk : ℕ} {Old : Sight} {item : Item} {now : Option (List ℕ)} {shelf' disk' : ℕ} {New : Sight}
-    → Told tells e items written shelf disk Old → Speaks tells e.files item written now shelf shelf' disk disk' Old New → Told tells e (items ++ item ∷ []) now shelf' disk' New
-told_more {tells = tells} {e = e} {items = items} {written = written} {shelf = shelf} {disk = disk} {Old = Old} {item = item} {now = now} {shelf' = shelf'} {disk' = disk'} {New = New} told speaks =
+pub told_more : {tells : Type 0} {e : Entry} {items : List Item} {written : Option (List ℕ)} {shelf disk : ℕ}
+    {Old : Sight} {item : Item} {now : Option (List ℕ)} {shelf' disk' : ℕ} {New : Sight}
+    → Told tells e items written shelf disk Old → Speaks tells e.files item written now shelf shelf' disk disk' Old New
+    → Told tells e (items ++ item ∷ []) now shelf' disk' New
+told_more {tells = tells} {e = e} {items = items} {written = written} {shelf = shelf} {disk = disk} {Old = Old}
+    {item = item} {now = now} {shelf' = shelf'} {disk' = disk'} {New = New} told speaks =
     record {
       answers = told.answers ++ speaks.answers;
-      run = Runs-more (Holds tells e.files) e.from items item told.answers speaks.answers (Old known) (New known) told.run (speaks.passes known);
-      order = Ordered-more (Holds tells e.files) items item told.answers speaks.answers (Old any) (New any) told.order (speaks.passes any);
-      shelf_counted = Counts-more shelf_fault e.shelf shelf shelf' told.answers speaks.answers told.shelf_counted speaks.shelf_counted;
-      disk_counted = Counts-more disk_fault e.disk disk disk' told.answers speaks.answers told.disk_counted speaks.disk_counted;
-      appended = subst (Appends e.written now) (sym (texts_of-more told.answers speaks.answers)) (Appends-trans e.written written now (texts_of told.answers) (texts_of speaks.answers) told.appended speaks.written);
+      run = Runs-more (Holds tells e.files) e.from items item told.answers speaks.answers (Old known) (New known)
+          told.run (speaks.passes known);
+      order = Ordered-more (Holds tells e.files) items item told.answers speaks.answers (Old any) (New any) told.order
+          (speaks.passes any);
+      shelf_counted = Counts-more shelf_fault e.shelf shelf shelf' told.answers speaks.answers told.shelf_counted
+          speaks.shelf_counted;
+      disk_counted = Counts-more disk_fault e.disk disk disk' told.answers speaks.answers told.disk_counted
+          speaks.disk_counted;
+      appended = subst (Appends e.written now) (sym (texts_of-more told.answers speaks.answers))
+          (Appends-trans e.written written now (texts_of told.answers) (texts_of speaks.answers) told.appended
+          speaks.written);
     }
 
-pub told_torn : {tells : Type 0} {e : Entry} {items : List Item} {written : Option (List ℕ)} {shelf disk : ℕ} {Old : Sight} {item : Item} {now : Option (List ℕ)} {shelf' disk' : ℕ} {New : Sight}
-    → Told tells e items written shelf disk Old → Stammers tells e.files item written now shelf shelf' disk disk' Old New → Torn tells e (items ++ item ∷ []) now shelf' disk' New
-told_torn {tells = tells} {e = e} {items = items} {written = written} {shelf = shelf} {disk = disk} {Old = Old} {item = item} {now = now} {shelf' = shelf'} {disk' = disk'} {New = New} told speaks =
+pub told_torn : {tells : Type 0} {e : Entry} {items : List Item} {written : Option (List ℕ)} {shelf disk : ℕ}
+    {Old : Sight} {item : Item} {now : Option (List ℕ)} {shelf' disk' : ℕ} {New : Sight}
+    → Told tells e items written shelf disk Old
+    → Stammers tells e.files item written now shelf shelf' disk disk' Old New
+    → Torn tells e (items ++ item ∷ []) now shelf' disk' New
+told_torn {tells = tells} {e = e} {items = items} {written = written} {shelf = shelf} {disk = disk} {Old = Old}
+    {item = item} {now = now} {shelf' = shelf'} {disk' = disk'} {New = New} told speaks =
     record {
       whole = told.answers;
       answer = speaks.answer;
-      run = Runs-more (Holds tells e.files) e.from items item told.answers (speaks.answer ∷ []) (Old known) (New known) told.run (speaks.passes known);
-      order = Ordered-more (Holds tells e.files) items item told.answers (speaks.answer ∷ []) (Old any) (New any) told.order (speaks.passes any);
-      shelf_counted = Counts-more shelf_fault e.shelf shelf shelf' told.answers (speaks.answer ∷ []) told.shelf_counted speaks.shelf_counted;
-      disk_counted = Counts-more disk_fault e.disk disk disk' told.answers (speaks.answer ∷ []) told.disk_counted speaks.disk_counted;
+      run = Runs-more (Holds tells e.files) e.from items item told.answers (speaks.answer ∷ []) (Old known) (New known)
+          told.run (speaks.passes known);
+      order = Ordered-more (Holds tells e.files) items item told.answers (speaks.answer ∷ []) (Old any) (New any)
+          told.order (speaks.passes any);
+      shelf_counted = Counts-more shelf_fault e.shelf shelf shelf' told.answers (speaks.answer ∷ []) told.shelf_counted
+          speaks.shelf_counted;
+      disk_counted = Counts-more disk_fault e.disk disk disk' told.answers (speaks.answer ∷ []) told.disk_counted
+          speaks.disk_counted;
       part = speaks.written.part;
       unwritten = speaks.written.rest;
       joined = speaks.written.joined;
       short = speaks.written.short;
-      appended = Appends-trans e.written written now (texts_of told.answers) speaks.written.part told.appended speaks.written.appended;
+      appended = Appends-trans e.written written now (texts_of told.answers) speaks.written.part told.appended
+          speaks.written.appended;
     }
 
 -- a line and then the steps after it: both written, or the line's answer not whole, or that of the steps not whole
-pub both_told : {tells : Type 0} {e : Entry} {items : List Item} {written : Option (List ℕ)} {shelf disk : ℕ} {Old : Sight} (item trail : Item)
-    (result : Fed) {w : Option (List ℕ)} (w' : Option (List ℕ)) {shelf' disk' : ℕ} (shelf'' disk'' : ℕ) {Mid : Sight} (New : Sight)
+pub both_told : {tells : Type 0} {e : Entry} {items : List Item} {written : Option (List ℕ)} {shelf disk : ℕ}
+    {Old : Sight} (item trail : Item)
+    (result : Fed) {w : Option (List ℕ)} (w' : Option (List ℕ)) {shelf' disk' : ℕ} (shelf'' disk'' : ℕ)
+    {Mid : Sight} (New : Sight)
     → Told tells e items written shelf disk Old → Speaks tells e.files item written w shelf shelf' disk disk' Old Mid
-    → SpeaksFed tells e.files result trail w w' shelf' shelf'' disk' disk'' Mid New → TellsFed tells e result items (item ∷ trail ∷ []) w' shelf'' disk'' New
+    → SpeaksFed tells e.files result trail w w' shelf' shelf'' disk' disk'' Mid New
+    → TellsFed tells e result items (item ∷ trail ∷ []) w' shelf'' disk'' New
 both_told {tells = tells} {e = e} {items = items} item trail fed.More w' shelf'' disk'' New told first second =
-    subst (λ (l : List Item). Told tells e l w' shelf'' disk'' New) (append_assoc items (item ∷ []) (trail ∷ [])) (told_more (told_more told first) second)
+    subst (λ (l : List Item). Told tells e l w' shelf'' disk'' New) (append_assoc items (item ∷ []) (trail ∷ []))
+    (told_more (told_more told first) second)
 both_told item trail fed.Quit w' shelf'' disk'' New told first second = absurd second
 both_told {tells = tells} {e = e} {items = items} item trail fed.Failed w' shelf'' disk'' New told first second =
     record {
       made = item ∷ trail ∷ [];
       unmade = [];
       joined = refl;
-      torn = subst (λ (l : List Item). Torn tells e l w' shelf'' disk'' New) (append_assoc items (item ∷ []) (trail ∷ [])) (told_torn (told_more told first) second);
+      torn = subst (λ (l : List Item). Torn tells e l w' shelf'' disk'' New)
+          (append_assoc items (item ∷ []) (trail ∷ [])) (told_torn (told_more told first) second);
     }
 
-pub first_torn : {tells : Type 0} {e : Entry} {items : List Item} {written : Option (List ℕ)} {shelf disk : ℕ} {Old : Sight} (item trail : Item)
+pub first_torn : {tells : Type 0} {e : Entry} {items : List Item} {written : Option (List ℕ)} {shelf disk : ℕ}
+    {Old : Sight} (item trail : Item)
     {w : Option (List ℕ)} {shelf' disk' : ℕ} {New : Sight}
-    → Told tells e items written shelf disk Old → Stammers tells e.files item written w shelf shelf' disk disk' Old New → TornIn tells e items (item ∷ trail ∷ []) w shelf' disk' New
-first_torn item trail told first = record { made = item ∷ []; unmade = trail ∷ []; joined = refl; torn = told_torn told first }
+    → Told tells e items written shelf disk Old → Stammers tells e.files item written w shelf shelf' disk disk' Old New
+    → TornIn tells e items (item ∷ trail ∷ []) w shelf' disk' New
+first_torn item trail told first = record {
+  made = item ∷ [];
+  unmade = trail ∷ [];
+  joined = refl;
+  torn = told_torn told first;
+}
 
 -- ---- items of lines
 
-items_of-more : (most : ℕ) (lines : List Text) (line : Text) → items_of most (lines ++ line ∷ []) ≡ items_of most lines ++ items_in most (line_command line)
+items_of-more : (most : ℕ) (lines : List Text) (line : Text)
+    → items_of most (lines ++ line ∷ []) ≡ items_of most lines ++ items_in most (line_command line)
 items_of-more most lines line =
-    flat_map-append (λ l. items_in most (line_command l)) lines (line ∷ []) ∙ ap (λ l. items_of most lines ++ l) (append-nil (items_in most (line_command line)))
+    flat_map-append (λ l. items_in most (line_command l)) lines (line ∷ [])
+    ∙ ap (λ l. items_of most lines ++ l) (append-nil (items_in most (line_command line)))
 
 -- a command that is neither blank nor `quit` is a line and the steps after it
-items_alone : (most : ℕ) (command : Command) → command ≢ said.blank → command ≢ said.quit → items_in most command ≡ run.line command ∷ run.late (due most command) ∷ []
+items_alone : (most : ℕ) (command : Command) → command ≢ said.blank → command ≢ said.quit
+    → items_in most command ≡ run.line command ∷ run.late (due most command) ∷ []
 items_alone most (said.said (grammar.inline w)) a b = refl
 items_alone most (said.said (grammar.source w)) a b = refl
 items_alone most (said.said grammar.publish) a b = refl
@@ -167,11 +223,13 @@ items_alone most said.overlong a b = refl
 -- ---- one line
 
 -- a line that is no event of the machine: blank, or `quit`
-silent : {tells : Type 0} {e : Entry} (P : Text → Type 0) {read : Text} {written : Option (List ℕ)} {shelf disk : ℕ} {Now : Sight} {kept : Option (List ℕ)} (s : Sofar tells e read written shelf disk Now kept)
+silent : {tells : Type 0} {e : Entry} (P : Text → Type 0) {read : Text} {written : Option (List ℕ)} {shelf disk : ℕ}
+    {Now : Sight} {kept : Option (List ℕ)} (s : Sofar tells e read written shelf disk Now kept)
     → items_in e.most (line_command s.rest) ≡ [] → P s.rest → Answered tells e P read written shelf disk Now
 silent {tells = tells} {e = e} P {written = written} {shelf = shelf} {disk = disk} {Now = Now} s none last =
     let same : items_of e.most s.lines ≡ items_of e.most (s.lines ++ s.rest ∷ []) =
-    sym (items_of-more e.most s.lines s.rest ∙ ap (λ l. items_of e.most s.lines ++ l) none ∙ append-nil (items_of e.most s.lines)) in
+    sym (items_of-more e.most s.lines s.rest ∙ ap (λ l. items_of e.most s.lines ++ l) none
+    ∙ append-nil (items_of e.most s.lines)) in
     record {
       lines = s.lines;
       rest = s.rest;
@@ -181,18 +239,25 @@ silent {tells = tells} {e = e} P {written = written} {shelf = shelf} {disk = dis
       last = last;
     }
 
-pub line_blank : {tells : Type 0} {e : Entry} {read : Text} {written : Option (List ℕ)} {shelf disk : ℕ} {Now : Sight} {kept : Option (List ℕ)}
-    → ((rest : Text) → kept ≡ kept_of rest → line_command rest ≡ said.blank) → Sofar tells e read written shelf disk Now kept → Answered tells e IsNotQuit read written shelf disk Now
+pub line_blank : {tells : Type 0} {e : Entry} {read : Text} {written : Option (List ℕ)} {shelf disk : ℕ} {Now : Sight}
+    {kept : Option (List ℕ)}
+    → ((rest : Text) → kept ≡ kept_of rest → line_command rest ≡ said.blank)
+    → Sofar tells e read written shelf disk Now kept → Answered tells e IsNotQuit read written shelf disk Now
 line_blank {e = e} read_as s =
     let is = read_as s.rest s.kept_is in
-    silent IsNotQuit s (ap (λ (c : Command). items_in e.most c) is) (λ q. let no : said.blank ≡ said.quit = sym is ∙ q in cc)
+    silent IsNotQuit s (ap (λ (c : Command). items_in e.most c) is)
+    (λ q. let no : said.blank ≡ said.quit = sym is ∙ q in cc)
 
-pub line_quit : {tells : Type 0} {e : Entry} {read : Text} {written : Option (List ℕ)} {shelf disk : ℕ} {Now : Sight} {kept : Option (List ℕ)}
-    → ((rest : Text) → kept ≡ kept_of rest → line_command rest ≡ said.quit) → Sofar tells e read written shelf disk Now kept → Answered tells e IsQuit read written shelf disk Now
-line_quit {e = e} read_as s = let is = read_as s.rest s.kept_is in silent IsQuit s (ap (λ (c : Command). items_in e.most c) is) is
+pub line_quit : {tells : Type 0} {e : Entry} {read : Text} {written : Option (List ℕ)} {shelf disk : ℕ} {Now : Sight}
+    {kept : Option (List ℕ)}
+    → ((rest : Text) → kept ≡ kept_of rest → line_command rest ≡ said.quit)
+    → Sofar tells e read written shelf disk Now kept → Answered tells e IsQuit read written shelf disk Now
+line_quit {e = e} read_as s = let is = read_as s.rest s.kept_is in silent IsQuit s
+    (ap (λ (c : Command). items_in e.most c) is) is
 
 -- a line that is answered is neither blank nor `quit`
-line_stands : (l : Line) → IsEvent l → (said.said (sentence_in l) ≢ said.blank) × (said.said (sentence_in l) ≢ said.quit)
+line_stands : (l : Line) → IsEvent l → (said.said (sentence_in l) ≢ said.blank)
+    × (said.said (sentence_in l) ≢ said.quit)
 line_stands (line.Inline w) event = (λ e. cc, λ e. cc)
 line_stands (line.Source w) event = (λ e. cc, λ e. cc)
 line_stands line.Publish event = (λ e. cc, λ e. cc)
@@ -205,22 +270,42 @@ line_stands line.Versions event = (λ e. cc, λ e. cc)
 line_stands line.Quit event = absurd event
 line_stands line.Blank event = absurd event
 
-asked_stands : (a : Asked) (command : Command) → IsAnswered a → SaysAsked a command → (command ≢ said.blank) × (command ≢ said.quit)
-asked_stands (asked.Line l) command event e = let stands = line_stands l event in (λ q. stands.0 (sym e ∙ q), λ q. stands.1 (sym e ∙ q))
-asked_stands asked.Long command event e = (λ q. let no : said.overlong ≡ said.blank = sym e ∙ q in cc, λ q. let no : said.overlong ≡ said.quit = sym e ∙ q in cc)
-asked_stands asked.Syntax command event e = (λ q. let no : said.unreadable ≡ said.blank = sym e ∙ q in cc, λ q. let no : said.unreadable ≡ said.quit = sym e ∙ q in cc)
-asked_stands (asked.Name place) command event m =
-    (λ q. let no : said.said (grammar.tile m.id m.file) ≡ said.blank = sym m.says ∙ q in cc, λ q. let no : said.said (grammar.tile m.id m.file) ≡ said.quit = sym m.says ∙ q in cc)
+asked_stands : (a : Asked) (command : Command) → IsAnswered a → SaysAsked a command → (command ≢ said.blank)
+    × (command ≢ said.quit)
+asked_stands (asked.Line l) command event e = let stands = line_stands l event in
+    (λ q. stands.0 (sym e ∙ q), λ q. stands.1 (sym e ∙ q))
+asked_stands asked.Long command event e = (
+  λ q. let no : said.overlong ≡ said.blank = sym e
+      ∙ q in cc,
+  λ q. let no : said.overlong ≡ said.quit = sym e ∙ q in cc,
+)
+asked_stands asked.Syntax command event e = (
+  λ q. let no : said.unreadable ≡ said.blank = sym e
+      ∙ q in cc,
+  λ q. let no : said.unreadable ≡ said.quit = sym e ∙ q in cc,
+)
+asked_stands (asked.Name place) command event m = (
+  λ q. let no : said.said (grammar.tile m.id m.file) ≡ said.blank = sym m.says
+      ∙ q in cc,
+  λ q. let no : said.said (grammar.tile m.id m.file) ≡ said.quit = sym m.says ∙ q in cc,
+)
 
 -- a line that is an event was taken
-pub takes_event : {tells : Type 0} {e : Entry} (result : Fed) {read : Text} {written : Option (List ℕ)} (now : Option (List ℕ)) {shelf disk : ℕ} (shelf' disk' : ℕ) {Old : Sight} (New : Sight) {kept : Option (List ℕ)} (a : Asked)
-    → IsAnswered a → ((rest : Text) → kept ≡ kept_of rest → SaysAsked a (line_command rest)) → (s : Sofar tells e read written shelf disk Old kept)
-    → ((command : Command) → SaysAsked a command → TellsFed tells e result (items_of e.most s.lines) (run.line command ∷ run.late (due e.most command) ∷ []) now shelf' disk' New)
+pub takes_event : {tells : Type 0} {e : Entry} (result : Fed) {read : Text} {written : Option (List ℕ)}
+    (now : Option (List ℕ)) {shelf disk : ℕ} (shelf' disk' : ℕ) {Old : Sight} (New : Sight)
+    {kept : Option (List ℕ)} (a : Asked)
+    → IsAnswered a → ((rest : Text) → kept ≡ kept_of rest → SaysAsked a (line_command rest))
+    → (s : Sofar tells e read written shelf disk Old kept)
+    → ((command : Command) → SaysAsked a command
+    → TellsFed tells e result (items_of e.most s.lines) (run.line command ∷ run.late (due e.most command) ∷ []) now
+    shelf' disk' New)
     → TakesLine tells e result read now shelf' disk' New
 takes_event {tells = tells} {e = e} fed.More now shelf' disk' New a event read_as s told =
     let says = read_as s.rest s.kept_is in let stands = asked_stands a (line_command s.rest) event says in
-    let same : items_of e.most s.lines ++ run.line (line_command s.rest) ∷ run.late (due e.most (line_command s.rest)) ∷ [] ≡ items_of e.most (s.lines ++ s.rest ∷ []) =
-    sym (items_of-more e.most s.lines s.rest ∙ ap (λ l. items_of e.most s.lines ++ l) (items_alone e.most (line_command s.rest) stands.0 stands.1)) in
+    let same : items_of e.most s.lines ++ run.line (line_command s.rest) ∷ run.late (due e.most (line_command s.rest)) ∷
+    [] ≡ items_of e.most (s.lines ++ s.rest ∷ []) =
+    sym (items_of-more e.most s.lines s.rest ∙ ap (λ l. items_of e.most s.lines ++ l)
+    (items_alone e.most (line_command s.rest) stands.0 stands.1)) in
     record {
       lines = s.lines;
       rest = s.rest;
@@ -229,7 +314,8 @@ takes_event {tells = tells} {e = e} fed.More now shelf' disk' New a event read_a
       told = subst (λ (l : List Item). Told tells e l now shelf' disk' New) same (told (line_command s.rest) says);
       last = stands.1;
     }
-takes_event fed.Quit now shelf' disk' New a event read_as s told = absurd (told (line_command s.rest) (read_as s.rest s.kept_is))
+takes_event fed.Quit now shelf' disk' New a event read_as s told = absurd
+    (told (line_command s.rest) (read_as s.rest s.kept_is))
 takes_event {e = e} fed.Failed now shelf' disk' New a event read_as s told =
     let says = read_as s.rest s.kept_is in let stands = asked_stands a (line_command s.rest) event says in
     let t = told (line_command s.rest) says in
@@ -240,36 +326,64 @@ takes_event {e = e} fed.Failed now shelf' disk' New a event read_as s told =
       no_quit = s.no_quit;
       items = items_of e.most s.lines ++ t.made;
       unmade = t.unmade;
-      items_are = items_of-more e.most s.lines s.rest ∙ ap (λ l. items_of e.most s.lines ++ l) (items_alone e.most (line_command s.rest) stands.0 stands.1 ∙ t.joined) ∙ sym (append_assoc (items_of e.most s.lines) t.made t.unmade);
+      items_are = items_of-more e.most s.lines s.rest
+          ∙ ap (λ l. items_of e.most s.lines ++ l)
+          (items_alone e.most (line_command s.rest) stands.0 stands.1 ∙ t.joined)
+          ∙ sym (append_assoc (items_of e.most s.lines) t.made t.unmade);
       torn = t.torn;
     }
 
 -- ---- what an item says
 
 -- a line's answer was written, or a part of it
-pub speaks_line : {tells : Type 0} (files files' : FileMap) (command : Command) (answer : machine.Answer) {before now : Option (List ℕ)} {shelf shelf' disk disk' : ℕ} (Old New : Sight)
-    → files ≡ files' → ((w : Which) (s : StateIn (kind_of w)) → Old w s → Leads (TurnIn (kind_of w) (Holds tells files) s command answer) (New w))
-    → Counts shelf_fault shelf shelf' (answer ∷ []) → Counts disk_fault disk disk' (answer ∷ []) → Appends before now (text_of answer)
+pub speaks_line : {tells : Type 0} (files files' : FileMap) (command : Command) (answer : machine.Answer)
+    {before now : Option (List ℕ)} {shelf shelf' disk disk' : ℕ} (Old New : Sight)
+    → files ≡ files' → ((w : Which) (s : StateIn (kind_of w)) → Old w s
+    → Leads (TurnIn (kind_of w) (Holds tells files) s command answer) (New w))
+    → Counts shelf_fault shelf shelf' (answer ∷ []) → Counts disk_fault disk disk' (answer ∷ [])
+    → Appends before now (text_of answer)
     → Speaks tells files' (run.line command) before now shelf shelf' disk disk' Old New
-speaks_line {tells = tells} files files' command answer {before = before} {now = now} Old New same turn shelf_counted disk_counted written =
+speaks_line {tells = tells} files files' command answer {before = before} {now = now} Old New same turn shelf_counted
+    disk_counted written =
     record {
       answers = answer ∷ [];
       passes = λ w s old. let led = turn w s old in
-          record { next = led.next; step = record { answer = answer; answers_are = refl; turn = subst (λ (f : FileMap). TurnIn (kind_of w) (Holds tells f) s command answer led.next) same led.step }; now = led.now };
+          record {
+            next = led.next;
+            step = record {
+              answer = answer;
+              answers_are = refl;
+              turn = subst (λ (f : FileMap). TurnIn (kind_of w) (Holds tells f) s command answer led.next) same
+                  led.step;
+            };
+            now = led.now;
+          };
       shelf_counted = shelf_counted;
       disk_counted = disk_counted;
       written = subst (Appends before now) (sym (append-nil (text_of answer))) written;
     }
 
-pub stammers_line : {tells : Type 0} (files files' : FileMap) (command : Command) (answer : machine.Answer) {before now : Option (List ℕ)} {shelf shelf' disk disk' : ℕ} (Old New : Sight)
-    → files ≡ files' → ((w : Which) (s : StateIn (kind_of w)) → Old w s → Leads (TurnIn (kind_of w) (Holds tells files) s command answer) (New w))
-    → Counts shelf_fault shelf shelf' (answer ∷ []) → Counts disk_fault disk disk' (answer ∷ []) → WritesPart before now (text_of answer)
+pub stammers_line : {tells : Type 0} (files files' : FileMap) (command : Command) (answer : machine.Answer)
+    {before now : Option (List ℕ)} {shelf shelf' disk disk' : ℕ} (Old New : Sight)
+    → files ≡ files' → ((w : Which) (s : StateIn (kind_of w)) → Old w s
+    → Leads (TurnIn (kind_of w) (Holds tells files) s command answer) (New w))
+    → Counts shelf_fault shelf shelf' (answer ∷ []) → Counts disk_fault disk disk' (answer ∷ [])
+    → WritesPart before now (text_of answer)
     → Stammers tells files' (run.line command) before now shelf shelf' disk disk' Old New
 stammers_line {tells = tells} files files' command answer Old New same turn shelf_counted disk_counted written =
     record {
       answer = answer;
       passes = λ w s old. let led = turn w s old in
-          record { next = led.next; step = record { answer = answer; answers_are = refl; turn = subst (λ (f : FileMap). TurnIn (kind_of w) (Holds tells f) s command answer led.next) same led.step }; now = led.now };
+          record {
+            next = led.next;
+            step = record {
+              answer = answer;
+              answers_are = refl;
+              turn = subst (λ (f : FileMap). TurnIn (kind_of w) (Holds tells f) s command answer led.next) same
+                  led.step;
+            };
+            now = led.now;
+          };
       shelf_counted = shelf_counted;
       disk_counted = disk_counted;
       written = written;
@@ -287,29 +401,45 @@ late_quiet answer.Shelf reply quiet = absurd quiet
 late_quiet _ reply quiet = refl
 
 -- the steps after a line were made, and what is said of them written, or a part of it
-pub speaks_late : {tells : Type 0} (files : FileMap) (most : ℕ) (a : Answer) (reply : List ℕ) (answers : List machine.Answer) {before now : Option (List ℕ)} (shelf : ℕ) {disk disk' : ℕ} (Old New : Sight)
-    → answers ≡ behind (meant a reply) → ((w : Which) (s : StateIn (kind_of w)) → Old w s → Leads (MakesIn (kind_of w) most s (meant a reply)) (New w))
+pub speaks_late : {tells : Type 0} (files : FileMap) (most : ℕ) (a : Answer) (reply : List ℕ)
+    (answers : List machine.Answer) {before now : Option (List ℕ)} (shelf : ℕ) {disk disk' : ℕ} (Old New : Sight)
+    → answers ≡ behind (meant a reply) → ((w : Which) (s : StateIn (kind_of w)) → Old w s
+    → Leads (MakesIn (kind_of w) most s (meant a reply)) (New w))
     → IsQuiet a → Counts disk_fault disk disk' (meant a reply ∷ []) → Appends before now (texts_of answers)
     → Speaks tells files (run.late most) before now shelf shelf disk disk' Old New
 speaks_late files most a reply answers shelf {disk = disk} {disk' = disk'} Old New are makes quiet counted written =
     record {
       answers = answers;
-      passes = λ w s old. let led = makes w s old in record { next = led.next; step = record { answer = meant a reply; answers_are = are; makes = led.step }; now = led.now };
-      shelf_counted = subst (Counts shelf_fault shelf shelf) (sym are) (λ short. let none = late_quiet a reply quiet in omega (arith, none));
-      disk_counted = subst (Counts disk_fault disk disk') (sym are) (λ short. let fewer = late_faults (meant a reply) in let all = counted short in omega (arith, fewer, all));
+      passes = λ w s old. let led = makes w s old in record {
+        next = led.next;
+        step = record { answer = meant a reply; answers_are = are; makes = led.step };
+        now = led.now;
+      };
+      shelf_counted = subst (Counts shelf_fault shelf shelf) (sym are)
+          (λ short. let none = late_quiet a reply quiet in omega (arith, none));
+      disk_counted = subst (Counts disk_fault disk disk') (sym are)
+          (λ short. let fewer = late_faults (meant a reply) in let all = counted short in omega (arith, fewer, all));
       written = written;
     }
 
-pub stammers_late : {tells : Type 0} (files : FileMap) (most : ℕ) (a : Answer) (reply : List ℕ) (answer : machine.Answer) {before now : Option (List ℕ)} (shelf : ℕ) {disk disk' : ℕ} (Old New : Sight)
-    → answer ∷ [] ≡ behind (meant a reply) → ((w : Which) (s : StateIn (kind_of w)) → Old w s → Leads (MakesIn (kind_of w) most s (meant a reply)) (New w))
+pub stammers_late : {tells : Type 0} (files : FileMap) (most : ℕ) (a : Answer) (reply : List ℕ)
+    (answer : machine.Answer) {before now : Option (List ℕ)} (shelf : ℕ) {disk disk' : ℕ} (Old New : Sight)
+    → answer ∷ [] ≡ behind (meant a reply) → ((w : Which) (s : StateIn (kind_of w)) → Old w s
+    → Leads (MakesIn (kind_of w) most s (meant a reply)) (New w))
     → IsQuiet a → Counts disk_fault disk disk' (meant a reply ∷ []) → WritesPart before now (text_of answer)
     → Stammers tells files (run.late most) before now shelf shelf disk disk' Old New
 stammers_late files most a reply answer shelf {disk = disk} {disk' = disk'} Old New are makes quiet counted written =
     record {
       answer = answer;
-      passes = λ w s old. let led = makes w s old in record { next = led.next; step = record { answer = meant a reply; answers_are = are; makes = led.step }; now = led.now };
-      shelf_counted = subst (Counts shelf_fault shelf shelf) (sym are) (λ short. let none = late_quiet a reply quiet in omega (arith, none));
-      disk_counted = subst (Counts disk_fault disk disk') (sym are) (λ short. let fewer = late_faults (meant a reply) in let all = counted short in omega (arith, fewer, all));
+      passes = λ w s old. let led = makes w s old in record {
+        next = led.next;
+        step = record { answer = meant a reply; answers_are = are; makes = led.step };
+        now = led.now;
+      };
+      shelf_counted = subst (Counts shelf_fault shelf shelf) (sym are)
+          (λ short. let none = late_quiet a reply quiet in omega (arith, none));
+      disk_counted = subst (Counts disk_fault disk disk') (sym are)
+          (λ short. let fewer = late_faults (meant a reply) in let all = counted short in omega (arith, fewer, all));
       written = written;
     }
 
@@ -319,15 +449,18 @@ HasNoFeed-more : (line : Text) (byte : ℕ) → byte ≢ 10 → HasNoFeed line �
 HasNoFeed-more [] byte other none = (other, tt)
 HasNoFeed-more (c ∷ line) byte other none = (none.0, HasNoFeed-more line byte other none.1)
 
-HaveNoFeed-more : (lines : List Text) (line : Text) → HaveNoFeed lines → HasNoFeed line → HaveNoFeed (lines ++ line ∷ [])
+HaveNoFeed-more : (lines : List Text) (line : Text) → HaveNoFeed lines → HasNoFeed line
+    → HaveNoFeed (lines ++ line ∷ [])
 HaveNoFeed-more [] line none last = (last, tt)
 HaveNoFeed-more (l ∷ lines) line none last = (none.0, HaveNoFeed-more lines line none.1 last)
 
-HaveNoQuit-more : (lines : List Text) (line : Text) → HaveNoQuit lines → IsNotQuit line → HaveNoQuit (lines ++ line ∷ [])
+HaveNoQuit-more : (lines : List Text) (line : Text) → HaveNoQuit lines → IsNotQuit line
+    → HaveNoQuit (lines ++ line ∷ [])
 HaveNoQuit-more [] line none last = (last, tt)
 HaveNoQuit-more (l ∷ lines) line none last = (none.0, HaveNoQuit-more lines line none.1 last)
 
-Cut-byte : (bytes : Text) (lines : List Text) (rest : Text) (byte : ℕ) → byte ≢ 10 → Cut bytes lines rest → Cut (bytes ++ byte ∷ []) lines (rest ++ byte ∷ [])
+Cut-byte : (bytes : Text) (lines : List Text) (rest : Text) (byte : ℕ) → byte ≢ 10 → Cut bytes lines rest
+    → Cut (bytes ++ byte ∷ []) lines (rest ++ byte ∷ [])
 Cut-byte bytes lines rest byte other cut =
     record {
       joined = ap (λ l. l ++ byte ∷ []) cut.joined ∙ append_assoc (flat_map ended lines) rest (byte ∷ []);
@@ -335,27 +468,40 @@ Cut-byte bytes lines rest byte other cut =
       open_end = HasNoFeed-more rest byte other cut.open_end;
     }
 
-Cut-feed : (bytes : Text) (lines : List Text) (rest : Text) → Cut bytes lines rest → Cut (bytes ++ 10 ∷ []) (lines ++ rest ∷ []) []
+Cut-feed : (bytes : Text) (lines : List Text) (rest : Text) → Cut bytes lines rest
+    → Cut (bytes ++ 10 ∷ []) (lines ++ rest ∷ []) []
 Cut-feed bytes lines rest cut =
     record {
       joined = ap (λ l. l ++ 10 ∷ []) cut.joined ∙ append_assoc (flat_map ended lines) rest (10 ∷ [])
-          ∙ ap (λ l. flat_map ended lines ++ l) (sym (append-nil (ended rest))) ∙ sym (flat_map-append ended lines (rest ∷ []))
+          ∙ ap (λ l. flat_map ended lines ++ l) (sym (append-nil (ended rest)))
+          ∙ sym (flat_map-append ended lines (rest ∷ []))
           ∙ sym (append-nil (flat_map ended (lines ++ rest ∷ [])));
       whole = HaveNoFeed-more lines rest cut.whole cut.open_end;
       open_end = tt;
     }
 
 -- a byte that isn't a line feed is kept
-pub byte_kept : {tells : Type 0} {e : Entry} {read : Text} (byte : ℕ) {written : Option (List ℕ)} {shelf disk : ℕ} {Now : Sight} {kept : Option (List ℕ)} (new : Option (List ℕ))
+pub byte_kept : {tells : Type 0} {e : Entry} {read : Text} (byte : ℕ) {written : Option (List ℕ)} {shelf disk : ℕ}
+    {Now : Sight} {kept : Option (List ℕ)} (new : Option (List ℕ))
     → ((line : Text) → kept ≡ kept_of line → new ≡ kept_of (line ++ byte ∷ [])) → byte ≢ 10
     → Sofar tells e read written shelf disk Now kept → Sofar tells e (read ++ byte ∷ []) written shelf disk Now new
 byte_kept {read = read} byte new pushed other s =
-    record { lines = s.lines; rest = s.rest ++ byte ∷ []; cut = Cut-byte read s.lines s.rest byte other s.cut; no_quit = s.no_quit; told = s.told; kept_is = pushed s.rest s.kept_is }
+    record {
+      lines = s.lines;
+      rest = s.rest ++ byte ∷ [];
+      cut = Cut-byte read s.lines s.rest byte other s.cut;
+      no_quit = s.no_quit;
+      told = s.told;
+      kept_is = pushed s.rest s.kept_is;
+    }
 
 -- a line feed ends the line that was answered
-pub line_passed : {tells : Type 0} {e : Entry} {read : Text} (byte : ℕ) {written : Option (List ℕ)} {shelf disk : ℕ} {Now : Sight} (new : Option (List ℕ))
-    → 10 ≡ byte → new ≡ Some [] → Answered tells e IsNotQuit read written shelf disk Now → Sofar tells e (read ++ byte ∷ []) written shelf disk Now new
-line_passed {tells = tells} {e = e} {read = read} byte {written = written} {shelf = shelf} {disk = disk} {Now = Now} new feed fresh a =
+pub line_passed : {tells : Type 0} {e : Entry} {read : Text} (byte : ℕ) {written : Option (List ℕ)} {shelf disk : ℕ}
+    {Now : Sight} (new : Option (List ℕ))
+    → 10 ≡ byte → new ≡ Some [] → Answered tells e IsNotQuit read written shelf disk Now
+    → Sofar tells e (read ++ byte ∷ []) written shelf disk Now new
+line_passed {tells = tells} {e = e} {read = read} byte {written = written} {shelf = shelf} {disk = disk} {Now = Now} new
+    feed fresh a =
     subst (λ (b : ℕ). Sofar tells e (read ++ b ∷ []) written shelf disk Now new) feed
     record {
       lines = a.lines ++ a.rest ∷ [];
@@ -367,7 +513,8 @@ line_passed {tells = tells} {e = e} {read = read} byte {written = written} {shel
     }
 
 -- a piece ended at the line feed that is its element i
-pub stops_at : (X : Text → Type 0) (piece read : Text) (i byte : ℕ) → i < length piece → get_or piece i byte ≡ 10 → X (read ++ take i piece) → UpTo piece (λ front. X (read ++ front))
+pub stops_at : (X : Text → Type 0) (piece read : Text) (i byte : ℕ) → i < length piece → get_or piece i byte ≡ 10
+    → X (read ++ take i piece) → UpTo piece (λ front. X (read ++ front))
 stops_at X piece read i byte lt feed reached =
     record {
       front = take i piece;

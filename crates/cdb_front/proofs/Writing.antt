@@ -14,18 +14,23 @@ pub record Appending (old now : Option (List ℕ)) (piece rest : List ℕ) : Typ
 pub begins : (old : Option (List ℕ)) (piece : List ℕ) → Appending old old piece piece
 begins old piece = record { part = []; joined = refl; appended = Appends-nil old }
 
-pub goes_on : (old now new : Option (List ℕ)) (piece rest : List ℕ) (n : ℕ) → Appending old now piece rest → Appends now new (take n rest) → Appending old new piece (drop n rest)
+pub goes_on : (old now new : Option (List ℕ)) (piece rest : List ℕ) (n : ℕ) → Appending old now piece rest
+    → Appends now new (take n rest) → Appending old new piece (drop n rest)
 goes_on old now new piece rest n a b =
     record {
       part = a.part ++ take n rest;
-      joined = a.joined ∙ ap (λ l. a.part ++ l) (sym (take-append-drop n rest)) ∙ sym (append_assoc a.part (take n rest) (drop n rest));
+      joined = a.joined ∙ ap (λ l. a.part ++ l) (sym (take-append-drop n rest))
+          ∙ sym (append_assoc a.part (take n rest) (drop n rest));
       appended = Appends-trans old now new a.part (take n rest) a.appended b;
     }
 
-pub ends : (old now : Option (List ℕ)) (piece rest : List ℕ) → Appending old now piece rest → rest ≡ [] → Appends old now piece
-ends old now piece rest a none = subst (Appends old now) (sym (a.joined ∙ ap (λ l. a.part ++ l) none ∙ append-nil a.part)) a.appended
+pub ends : (old now : Option (List ℕ)) (piece rest : List ℕ) → Appending old now piece rest → rest ≡ []
+    → Appends old now piece
+ends old now piece rest a none = subst (Appends old now)
+    (sym (a.joined ∙ ap (λ l. a.part ++ l) none ∙ append-nil a.part)) a.appended
 
-pub breaks : (old now new : Option (List ℕ)) (piece rest : List ℕ) → Appending old now piece rest → rest ≢ [] → WritesLess now new rest → WritesPart old new piece
+pub breaks : (old now new : Option (List ℕ)) (piece rest : List ℕ) → Appending old now piece rest → rest ≢ []
+    → WritesLess now new rest → WritesPart old new piece
 breaks old now new piece [] a some b = absurd (some refl)
 breaks old now new piece (x ∷ rest) a some b =
     record {
@@ -40,7 +45,8 @@ some_more : (xs ys : List ℕ) → xs ≢ [] → xs ++ ys ≢ []
 some_more [] ys h e = h refl
 some_more (x ∷ xs) ys h e = absurd cc
 
-pub first_breaks : (old new : Option (List ℕ)) (first second : List ℕ) → WritesPart old new first → WritesPart old new (first ++ second)
+pub first_breaks : (old new : Option (List ℕ)) (first second : List ℕ) → WritesPart old new first
+    → WritesPart old new (first ++ second)
 first_breaks old new first second a =
     record {
       part = a.part;
@@ -50,7 +56,8 @@ first_breaks old new first second a =
       appended = a.appended;
     }
 
-pub second_breaks : (old now new : Option (List ℕ)) (first second : List ℕ) → Appends old now first → WritesPart now new second → WritesPart old new (first ++ second)
+pub second_breaks : (old now new : Option (List ℕ)) (first second : List ℕ) → Appends old now first
+    → WritesPart now new second → WritesPart old new (first ++ second)
 second_breaks old now new first second a b =
     record {
       part = first ++ b.part;
@@ -60,5 +67,6 @@ second_breaks old now new first second a b =
       appended = Appends-trans old now new first b.part a b.appended;
     }
 
-pub both : (old now new : Option (List ℕ)) (first second : List ℕ) → Appends old now first → Appends now new second → Appends old new (first ++ second)
+pub both : (old now new : Option (List ℕ)) (first second : List ℕ) → Appends old now first → Appends now new second
+    → Appends old new (first ++ second)
 both old now new first second a b = Appends-trans old now new first second a b

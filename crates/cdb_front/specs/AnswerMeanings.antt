@@ -95,6 +95,19 @@ abbrev pub IsBare : Answer → Type 0
 IsBare (Tile count) = ⊥
 IsBare _ = Unit {0}
 
+-- it has no bytes after its line, and says of no device that it failed
+abbrev pub IsOrdinary : Answer → Type 0
+IsOrdinary (Tile count) = ⊥
+IsOrdinary Shelf = ⊥
+IsOrdinary Fault = ⊥
+IsOrdinary LateFault = ⊥
+IsOrdinary _ = Unit {0}
+
+-- the same, but that it may say that the shelf failed
+abbrev pub IsOfShelf : Answer → Type 0
+IsOfShelf Shelf = Unit {0}
+IsOfShelf answer = IsOrdinary answer
+
 -- an answer that has no bytes, and is the same whatever is kept of a tile
 abbrev pub said_late : Option Answer → List ℕ → List machine.Answer
 said_late None reply = []

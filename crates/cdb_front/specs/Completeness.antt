@@ -25,8 +25,8 @@ pub record IsUndisturbed (v : Devices) (input_faults : v.I → ℕ) (output_faul
   pub store_failed : life.status ≡ StoreFault → Rose (v.disk_faults life.old) (v.disk_faults life.new)
   pub output_failed : life.status ≡ OutputFault → Rose (output_faults life.output) (output_faults life.output')
 
--- the run is done, or stopped for want of memory, or as its input is too long; it isn't too long where it has few bytes, or
--- `quit` among the first; each answer is one of the machine's table or want of memory
+-- the run is done, or stopped for want of memory, or as its input is too long; it isn't too long where it has few
+-- bytes, or `quit` among the first; each answer is one of the machine's table or want of memory
 pub record IsComplete (v : Devices) (life : Life v) (answers : List machine.Answer) : Type 0 where
   pub ends : (life.status ≡ Done) ⊎ ((life.status ≡ Memory) ⊎ (life.status ≡ TooLong))
   pub few : IfSome (v.left life.input) (λ bytes. length bytes < 2 ^ 32 → life.status ≢ TooLong)
@@ -38,6 +38,23 @@ abbrev pub Completes : (v : Devices) → (v.I → ℕ) → (v.O → ℕ) → Typ
 Completes v input_faults output_faults = (life : Life v) (base : Base) (goes : Goes v life (Some base))
     → IsUndisturbed v input_faults output_faults life → IsComplete v life goes.transcript.answers
 
-abbrev pub CompletesOf : {D H I O : Type 0} → Type 0 → (D → disk.State) → (D → ℕ) → (D → ℕ → FileMap → Type 0) → (D → ℕ) → Type 0 → (H → FileMap) → (H → ℕ) → (I → Option (List ℕ)) → (I → ℕ) → (O → Option (List ℕ)) → (O → ℕ) → Type 0
-CompletesOf {D = D} {H = H} {I = I} {O = O} disk_tells state clock since disk_faults shelf_tells files shelf_faults left input_faults written output_faults =
-    Completes (record { D = D; H = H; I = I; O = O; disk_tells = disk_tells; state = state; clock = clock; since = since; disk_faults = disk_faults; shelf_tells = shelf_tells; files = files; shelf_faults = shelf_faults; left = left; written = written }) input_faults output_faults
+abbrev pub CompletesOf : {D H I O : Type 0} → Type 0 → (D → disk.State) → (D → ℕ) → (D → ℕ → FileMap → Type 0) → (D → ℕ)
+    → Type 0 → (H → FileMap) → (H → ℕ) → (I → Option (List ℕ)) → (I → ℕ) → (O → Option (List ℕ)) → (O → ℕ) → Type 0
+CompletesOf {D = D} {H = H} {I = I} {O = O} disk_tells state clock since disk_faults shelf_tells files shelf_faults left
+    input_faults written output_faults =
+    Completes (record {
+      D = D;
+      H = H;
+      I = I;
+      O = O;
+      disk_tells = disk_tells;
+      state = state;
+      clock = clock;
+      since = since;
+      disk_faults = disk_faults;
+      shelf_tells = shelf_tells;
+      files = files;
+      shelf_faults = shelf_faults;
+      left = left;
+      written = written;
+    }) input_faults output_faults

@@ -15,8 +15,8 @@ abbrev pub WritesLess : Option (List ℕ) → Option (List ℕ) → List ℕ →
 WritesLess old new [] = Keeps old new
 WritesLess old new (byte ∷ piece) = WritesPart old new (byte ∷ piece)
 
--- an input in memory: what is left of it, how many bytes it gives at most in a call, the numbers of the calls that fail, and
--- how many calls there were and how many failed
+-- an input in memory: what is left of it, how many bytes it gives at most in a call, the numbers of the calls that
+-- fail, and how many calls there were and how many failed
 pub record Supply : Type 0 where
   pub left : List ℕ
   pub most : ℕ
@@ -24,8 +24,8 @@ pub record Supply : Type 0 where
   pub calls : ℕ
   pub faults : ℕ
 
--- an output in memory: what was written to it, the numbers of the calls that fail, and how many calls there were, how many
--- failed and how often it was refused memory
+-- an output in memory: what was written to it, the numbers of the calls that fail, and how many calls there were, how
+-- many failed and how often it was refused memory
 pub record Receipt : Type 0 where
   pub written : List ℕ
   pub fails : List ℕ

@@ -1,26 +1,8 @@
--- The disk at the beginning of a run: whole for a list, or left by a fault without a stop.
-use Rattle.std.specs.Prelude.{◌≡◌, ℕ, List, [], ◌∷◌, Option, None, Some}
-use Rattle.cdb_model.specs.Publications.{Publication}
-use Rattle.cdb_model.specs.Stands.{Stands}
-use Rattle.cdb_model.specs.Images.{Base, IsNext}
-use Rattle.cdb_crash.specs.Crash.{IsWhole, IsFaulted}
+-- The disk at the beginning of a run: it tells what it holds, and has a store; or nothing is known of it.
+use Rattle.std.specs.Prelude.{◌≡◌, ℕ, Option, None, Some}
+use Rattle.cdb_model.specs.Images.{Base}
 use Rattle.cdb_files.specs.Disk as disk
-use Rattle.cdb_front.specs.declared.store_calls.OpenError.{OpenError}
-use Rattle.cdb_front.specs.declared.store_calls.OpenError.TheVariants.{NotAStore}
-
--- after a fault without a stop: a clear disk that stands for the list at present; a crash may also leave the other one
-pub record IsLeft (list other : List Publication) (d : disk.State) : Type 0 where
-  pub shorter : List Publication
-  pub x : Publication
-  pub next : IsNext shorter x list other
-  pub faulted : IsFaulted Stands shorter x d
-  pub present : Stands d.present list
-
--- a disk that is whole for the list, or was left by a fault without a stop
-abbrev pub IsStore : List Publication → List (List Publication) → disk.State → Type 0
-IsStore list [] d = IsWhole Stands list d
-IsStore list (other ∷ []) d = IsLeft list other d
-IsStore list _ d = ⊥
+use Rattle.cdb_engine.specs.Store.{IsStore}
 
 -- the disk tells what it holds, and has the store at this moment
 pub record HasStore (tells : Type 0) (base : Base) (moment : ℕ) (d : disk.State) : Type 0 where
@@ -32,8 +14,3 @@ pub record HasStore (tells : Type 0) (base : Base) (moment : ℕ) (d : disk.Stat
 abbrev pub IsKnown : Type 0 → Option Base → ℕ → disk.State → Type 0
 IsKnown tells None moment d = Unit {0}
 IsKnown tells (Some base) moment d = HasStore tells base moment d
-
--- a disk with a store isn't refused as none
-abbrev pub IsOfStoreError : OpenError → Type 0
-IsOfStoreError (NotAStore version place) = ⊥
-IsOfStoreError _ = Unit {0}

@@ -12,12 +12,6 @@ use Rattle.cdb_crash.specs.Crash.{IsWhole, IsEither}
 use Rattle.cdb_files.specs.Disk as disk
 use Rattle.cdb_files.specs.Disk.{IsImage}
 
--- what an event leads to: a next state, which is one of now
-pub record Leads {S : Type 0} (Step : S → Type 0) (Now : S → Type 0) : Type 0 where
-  pub next : S
-  pub step : Step next
-  pub now : Now next
-
 -- states of a known store, and of any
 abbrev pub Sight : Type 1
 Sight = (w : Which) → StateIn (kind_of w) → Type 0
@@ -29,8 +23,8 @@ pub record IsLeftBy (s : State) (d : disk.State) : Type 0 where
   pub either : (x : Publication) → s.halted ≡ Some x → (m : FileMap) → IsImage d m → IsEither Stands s.list x m
   pub one : (now : Going) (x : Publication) → s.going ≡ Some now → s.halted ≡ Some x → ⊥
 
--- a state of a run that began with a store: whatever a crash left since then stands for the store's list followed by the
--- first of the publications begun
+-- a state of a run that began with a store: whatever a crash left since then stands for the store's list followed by
+-- the first of the publications begun
 pub record IsFollowed (base : Base) (s : State) (Since : FileMap → Type 0) (d : disk.State) : Type 0 where
   pub begun : List Publication
   pub has_begun : HasBegun base.list s begun

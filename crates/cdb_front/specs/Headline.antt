@@ -49,8 +49,16 @@ Knows v life from = IsKnown v.disk_tells from (v.clock life.old) (v.state life.o
 -- how the run went, from this store
 abbrev pub Goes : (v : Devices) → Life v → Option Base → Type 0
 Goes v life from = Outcome v.shelf_tells
-    (record { files = v.files life.shelf; shelf = v.shelf_faults life.shelf; disk = v.disk_faults life.old; written = v.written life.output; from = from; most = life.most })
-    (v.shelf_faults life.shelf') (v.disk_faults life.new) (v.left life.input) (v.left life.input') (v.written life.output') (v.since life.new (v.clock life.old)) (v.state life.new) life.status
+    (record {
+      files = v.files life.shelf;
+      shelf = v.shelf_faults life.shelf;
+      disk = v.disk_faults life.old;
+      written = v.written life.output;
+      from = from;
+      most = life.most;
+    })
+    (v.shelf_faults life.shelf') (v.disk_faults life.new) (v.left life.input) (v.left life.input')
+    (v.written life.output') (v.since life.new (v.clock life.old)) (v.state life.new) life.status
 
 -- the run is as the program promises
 abbrev pub Meets : (v : Devices) → Life v → Type 0
@@ -75,13 +83,17 @@ pub record Reopens (v : Devices) (life next : Life v) : Type 0 where
 abbrev pub whole_for : (v : Devices) → List Publication → Life v → Base
 whole_for v list life = record { list = list; early = []; moment = v.clock life.old }
 
--- what the run acknowledged before it stopped. A stop within the run is one of another disk, whose calls fail from there on
-abbrev pub acked : (v : Devices) (life : Life v) (m : FileMap) (opened : List Publication) → Stops v life m → Goes v life (Some (whole_for v opened life)) → List Publication
+-- what the run acknowledged before it stopped. A stop within the run is one of another disk, whose calls fail from
+-- there on
+abbrev pub acked : (v : Devices) (life : Life v) (m : FileMap) (opened : List Publication) → Stops v life m
+    → Goes v life (Some (whole_for v opened life)) → List Publication
 acked v life m opened (amid since) goes = []
 acked v life m opened (at_end image) goes = acknowledged goes.run.begun goes.transcript.answers goes.transcript.wrote
 
--- a run opened a list, and a stop left it followed by the first of the publications begun, with all that are acknowledged
-pub record Adds (v : Devices) (life : Life v) (m : FileMap) (stop : Stops v life m) (opened now : List Publication) : Type 0 where
+-- a run opened a list, and a stop left it followed by the first of the publications begun, with all that are
+-- acknowledged
+pub record Adds (v : Devices) (life : Life v) (m : FileMap) (stop : Stops v life m)
+    (opened now : List Publication) : Type 0 where
   pub goes : Goes v life (Some (whole_for v opened life))
   pub first : List Publication
   pub later : List Publication
@@ -90,12 +102,14 @@ pub record Adds (v : Devices) (life : Life v) (m : FileMap) (stop : Stops v life
   pub holds : first ≡ acked v life m opened stop goes ++ more
   pub now_is : now ≡ opened ++ first
 
-pub record AddsTo (v : Devices) (Before : List Publication → Type 0) (life : Life v) (m : FileMap) (stop : Stops v life m) (now : List Publication) : Type 0 where
+pub record AddsTo (v : Devices) (Before : List Publication → Type 0) (life : Life v) (m : FileMap)
+    (stop : Stops v life m) (now : List Publication) : Type 0 where
   pub opened : List Publication
   pub before : Before opened
   pub adds : Adds v life m stop opened now
 
--- runs up to the last one, the latest first: the first is over a store of this list, and each other over what a stop left
+-- runs up to the last one, the latest first: the first is over a store of this list, and each other over what a stop
+-- left
 abbrev pub Follow : (v : Devices) → List Publication → Life v → List (Life v) → Type 0
 Follow v list last [] = IsWhole Stands list (v.state last.old)
 Follow v list last (life ∷ earlier) = Reopens v life last × Follow v list life earlier
@@ -106,19 +120,25 @@ AllMeet v last [] = Meets v last
 AllMeet v last (life ∷ earlier) = Meets v last × AllMeet v life earlier
 
 -- the last one opens this list: what was there at first, and what each run before added
-abbrev pub Opens : (v : Devices) (list : List Publication) (last : Life v) (earlier : List (Life v)) → Follow v list last earlier → List Publication → Type 0
+abbrev pub Opens : (v : Devices) (list : List Publication) (last : Life v) (earlier : List (Life v))
+    → Follow v list last earlier → List Publication → Type 0
 Opens v list last [] follow now = now ≡ list
-Opens v list last (life ∷ earlier) follow now = AddsTo v (Opens v list life earlier follow.1) life follow.0.m follow.0.stop now
+Opens v list last (life ∷ earlier) follow now = AddsTo v (Opens v list life earlier follow.1) life follow.0.m
+    follow.0.stop now
 
 -- a publication was acknowledged by one of the earlier runs
-abbrev pub WasAcked : (v : Devices) (list : List Publication) (last : Life v) (earlier : List (Life v)) (follow : Follow v list last earlier) (now : List Publication) → Opens v list last earlier follow now → Publication → Type 0
+abbrev pub WasAcked : (v : Devices) (list : List Publication) (last : Life v) (earlier : List (Life v))
+    (follow : Follow v list last earlier) (now : List Publication) → Opens v list last earlier follow now
+    → Publication → Type 0
 WasAcked v list last [] follow now opens x = ⊥
 WasAcked v list last (life ∷ earlier) follow now opens x =
-    Contains (acked v life follow.0.m opens.opened follow.0.stop opens.adds.goes) x ⊎ WasAcked v list life earlier follow.1 opens.opened opens.before x
+    Contains (acked v life follow.0.m opens.opened follow.0.stop opens.adds.goes) x
+    ⊎ WasAcked v list life earlier follow.1 opens.opened opens.before x
 
 -- reopening gives the list of the first store, followed run by run by the first of the publications begun, with every
 -- acknowledged one; from there the last run goes on as the program promises
-pub record Kept (v : Devices) (list : List Publication) (last : Life v) (earlier : List (Life v)) (follow : Follow v list last earlier) : Type 0 where
+pub record Kept (v : Devices) (list : List Publication) (last : Life v) (earlier : List (Life v))
+    (follow : Follow v list last earlier) : Type 0 where
   pub now : List Publication
   pub opens : Opens v list last earlier follow now
   pub every : (x : Publication) → WasAcked v list last earlier follow now opens x → Contains now x
@@ -127,14 +147,61 @@ pub record Kept (v : Devices) (list : List Publication) (last : Life v) (earlier
 
 -- over devices of which the disk tells what it holds
 abbrev pub Headline : Devices → Type 0
-Headline v = v.disk_tells → (list : List Publication) (last : Life v) (earlier : List (Life v)) (follow : Follow v list last earlier) → AllMeet v last earlier → Kept v list last earlier follow
+Headline v = v.disk_tells → (list : List Publication) (last : Life v) (earlier : List (Life v))
+    (follow : Follow v list last earlier) → AllMeet v last earlier → Kept v list last earlier follow
 
-abbrev pub HeadlineOf : {D H I O : Type 0} → Type 0 → (D → disk.State) → (D → ℕ) → (D → ℕ → FileMap → Type 0) → (D → ℕ) → Type 0 → (H → FileMap) → (H → ℕ) → (I → Option (List ℕ)) → (O → Option (List ℕ)) → Type 0
-HeadlineOf {D = D} {H = H} {I = I} {O = O} disk_tells state clock since disk_faults shelf_tells files shelf_faults left written =
-    Headline (record { D = D; H = H; I = I; O = O; disk_tells = disk_tells; state = state; clock = clock; since = since; disk_faults = disk_faults; shelf_tells = shelf_tells; files = files; shelf_faults = shelf_faults; left = left; written = written })
+abbrev pub HeadlineOf : {D H I O : Type 0} → Type 0 → (D → disk.State) → (D → ℕ) → (D → ℕ → FileMap → Type 0) → (D → ℕ)
+    → Type 0 → (H → FileMap) → (H → ℕ) → (I → Option (List ℕ)) → (O → Option (List ℕ)) → Type 0
+HeadlineOf {D = D} {H = H} {I = I} {O = O} disk_tells state clock since disk_faults shelf_tells files shelf_faults
+    left written =
+    Headline (record {
+      D = D;
+      H = H;
+      I = I;
+      O = O;
+      disk_tells = disk_tells;
+      state = state;
+      clock = clock;
+      since = since;
+      disk_faults = disk_faults;
+      shelf_tells = shelf_tells;
+      files = files;
+      shelf_faults = shelf_faults;
+      left = left;
+      written = written;
+    })
 
 -- the run is as the program promises, by its devices
-abbrev pub MeetsOf : {D H I O : Type 0} → Type 0 → (D → disk.State) → (D → ℕ) → (D → ℕ → FileMap → Type 0) → (D → ℕ) → Type 0 → (H → FileMap) → (H → ℕ) → (I → Option (List ℕ)) → (O → Option (List ℕ)) → D → D → H → H → I → I → O → O → ℕ → Status → Type 0
-MeetsOf {D = D} {H = H} {I = I} {O = O} disk_tells state clock since disk_faults shelf_tells files shelf_faults left written old new shelf shelf' input input' output output' most status =
-    Meets (record { D = D; H = H; I = I; O = O; disk_tells = disk_tells; state = state; clock = clock; since = since; disk_faults = disk_faults; shelf_tells = shelf_tells; files = files; shelf_faults = shelf_faults; left = left; written = written })
-    (record { old = old; new = new; shelf = shelf; shelf' = shelf'; input = input; input' = input'; output = output; output' = output'; most = most; status = status })
+abbrev pub MeetsOf : {D H I O : Type 0} → Type 0 → (D → disk.State) → (D → ℕ) → (D → ℕ → FileMap → Type 0) → (D → ℕ)
+    → Type 0 → (H → FileMap) → (H → ℕ) → (I → Option (List ℕ)) → (O → Option (List ℕ)) → D → D → H → H → I → I → O → O
+    → ℕ → Status → Type 0
+MeetsOf {D = D} {H = H} {I = I} {O = O} disk_tells state clock since disk_faults shelf_tells files shelf_faults left
+    written old new shelf shelf' input input' output output' most status =
+    Meets (record {
+      D = D;
+      H = H;
+      I = I;
+      O = O;
+      disk_tells = disk_tells;
+      state = state;
+      clock = clock;
+      since = since;
+      disk_faults = disk_faults;
+      shelf_tells = shelf_tells;
+      files = files;
+      shelf_faults = shelf_faults;
+      left = left;
+      written = written;
+    })
+    (record {
+      old = old;
+      new = new;
+      shelf = shelf;
+      shelf' = shelf';
+      input = input;
+      input' = input';
+      output = output;
+      output' = output';
+      most = most;
+      status = status;
+    })

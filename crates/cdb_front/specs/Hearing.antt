@@ -3,7 +3,7 @@ use Rattle.std.specs.Prelude.{◌≡◌}
 use Rattle.cdb_model.specs.Commands as said
 use Rattle.cdb_model.specs.Commands.{Command}
 use Rattle.cdb_model.specs.Grammar.{sentence_in}
-use Rattle.cdb_model.specs.Run.{Misnames}
+use Rattle.cdb_model.specs.Lines.{Misnames}
 use Rattle.cdb_model.specs.declared.line.Line.{Line}
 use Rattle.cdb_model.specs.declared.line.Line.TheVariants as line
 use Rattle.cdb_front.specs.declared.heard.Asked.{Asked}
@@ -16,6 +16,12 @@ abbrev pub IsEvent : Line → Type 0
 IsEvent line.Blank = ⊥
 IsEvent line.Quit = ⊥
 IsEvent _ = Unit {0}
+
+-- nor asks for steps
+abbrev pub IsStepless : Line → Type 0
+IsStepless (line.Step n) = ⊥
+IsStepless line.StepAll = ⊥
+IsStepless l = IsEvent l
 
 abbrev pub IsAnswered : Asked → Type 0
 IsAnswered (asked.Line l) = IsEvent l

@@ -19,13 +19,16 @@ use Rattle.cdb_model.specs.Images.{Base, StandsKept, StandsForOne, StandsSince}
 use Rattle.cdb_crash.specs.Crash.{IsClear, IsWhole, IsFaulted}
 use Rattle.cdb_files.specs.Disk as disk
 use Rattle.cdb_files.specs.Disk.{IsImage}
+use Rattle.cdb_chain.specs.declared.open_error.OpenError.{OpenError}
+use Rattle.cdb_chain.specs.declared.open_error.OpenError.TheVariants as refused
+use Rattle.cdb_engine.specs.Store.{IsNoStore}
 use Rattle.cdb_front.specs.Devices.{WritesPart}
 use Rattle.cdb_front.specs.Followed.{Sight}
 use Rattle.cdb_front.specs.RunProgress.{Entry, Holds, Runs, Ordered}
 use Rattle.cdb_front.specs.StatusCodes.{status_line}
 use Rattle.cdb_front.specs.Stepping.{Counts}
 use Rattle.cdb_front.specs.declared.exit_status.Status.{Status}
-use Rattle.cdb_front.specs.declared.exit_status.Status.TheVariants.{Done, InputFault, OutputFault, NotAStore, TooLong}
+use Rattle.cdb_front.specs.declared.exit_status.Status.TheVariants.{Done, Memory, Usage, InputFault, OutputFault, StoreFault, NotAStore, TooLong}
 
 -- ---- what was read, what was answered to it, and what was written
 
@@ -63,8 +66,9 @@ WritesAnswers status answers wrote = wrote ≡ texts_of answers
 abbrev pub IsLineEnd : Option (List ℕ) → Text → Type 0
 IsLineEnd left unread = ((unread ≡ []) × IsAtEnd left) ⊎ ((after : Text) × (unread ≡ 10 ∷ after))
 
--- why the script ended: the end of the input after fewer than 2 ^ 32 bytes, or the line `quit`, whose line feed is at most
--- the last of 2 ^ 32; an answer to a whole line that wasn't written whole; a failed read; 2 ^ 32 bytes; nothing was read
+-- why the script ended: the end of the input after fewer than 2 ^ 32 bytes, or the line `quit`, whose line feed is at
+-- most the last of 2 ^ 32; an answer to a whole line that wasn't written whole; a failed read; 2 ^ 32 bytes; nothing
+-- was read
 abbrev pub Finishes : Status → Option (List ℕ) → Text → Text → Text → Type 0
 Finishes Done left read unread rest =
     (length read < 2 ^ 32) × (((unread ≡ []) × IsAtEnd left)
@@ -75,9 +79,10 @@ Finishes TooLong left read unread rest = (unread ≡ []) × (length read ≡ 2 ^
 Finishes status left read unread rest = (unread ≡ []) × (read ≡ [])
 
 -- what was read of the input, what was answered to it, and what was written of that, before the line of the status
-pub record Transcript (e : Entry) (shelf disk : ℕ) (left left' written : Option (List ℕ)) (status : Status) : Type 0 where
-  -- what was taken and used, and what came in the same piece of 4,096 bytes after `quit` or after the answer that wasn't
-  -- written
+pub record Transcript (e : Entry) (shelf disk : ℕ) (left left' written : Option (List ℕ))
+    (status : Status) : Type 0 where
+  -- what was taken and used, and what came in the same piece of 4,096 bytes after `quit` or after the answer that
+  -- wasn't written
   pub read : Text
   pub unread : Text
   pub taken : Consumes left left' (read ++ unread)
@@ -134,6 +139,20 @@ WasOpened OutputFault = Unit {0}
 WasOpened TooLong = Unit {0}
 WasOpened status = ⊥
 
+-- no store was opened
+abbrev pub IsClosed : Status → Type 0
+IsClosed Memory = Unit {0}
+IsClosed Usage = Unit {0}
+IsClosed StoreFault = Unit {0}
+IsClosed (NotAStore version place) = Unit {0}
+IsClosed status = ⊥
+
+-- how a run ends that couldn't open its store
+abbrev pub status_of : OpenError → Status
+status_of refused.Memory = Memory
+status_of refused.Fault = StoreFault
+status_of (refused.NotAStore version place) = NotAStore version place
+
 -- what a crash leaves at exit stands for the list followed by the first of the publications begun, with all that are
 -- acknowledged; where the run ended in opening it may stand for one of the early lists
 abbrev pub StandsAtExit : Status → Base → List Publication → List Publication → FileMap → Type 0
@@ -143,10 +162,12 @@ StandsAtExit OutputFault base begun kept m = StandsKept base.list begun kept m
 StandsAtExit TooLong base begun kept m = StandsKept base.list begun kept m
 StandsAtExit status base begun kept m = StandsKept base.list begun kept m ⊎ StandsForOne base.early m
 
--- what a run finds that begins on the same disk without a stop: a whole one, or one that a fault left, where it is clear
+-- what a run finds that begins on the same disk without a stop: a whole one, or one that a fault left, where it is
+-- clear
 pub record IsAtRest (s : State) (d : disk.State) : Type 0 where
   pub whole : s.halted ≡ None → IsWhole Stands s.list d
   pub faulted : (x : Publication) → s.halted ≡ Some x → IsClear d → IsFaulted Stands s.list x d
+  pub idle : (x : Publication) → s.halted ≡ Some x → s.going ≡ None
 
 -- of a run that ended in opening nothing is said
 abbrev pub RestsAt : Status → State → disk.State → Type 0
@@ -172,6 +193,11 @@ abbrev pub EndsFrom : (Text → Content → Type 0) → Option Base → Status �
     → (FileMap → Type 0) → disk.State → Type 0
 EndsFrom Has None status items answers wrote Since d = Unit {0}
 EndsFrom Has (Some base) status items answers wrote Since d = Ended Has base status items answers wrote Since d
+
+-- no store was opened since the files that were there are none, where the disk tells
+abbrev pub SaysNoStore : Type 0 → FileMap → Status → Type 0
+SaysNoStore tells present (NotAStore version place) = tells → IsNoStore present version place
+SaysNoStore tells present status = Unit {0}
 
 -- ---- the whole run
 

@@ -14,7 +14,8 @@ use Rattle.cdb_model.specs.Runs.{Item, Run, RunIn, PassesIn, items_of}
 use Rattle.cdb_model.specs.AnswerTexts.{text_of, texts_of, shelf_fault, disk_fault}
 use Rattle.cdb_model.specs.Images.{Base}
 use Rattle.cdb_front.specs.Devices.{WritesPart}
-use Rattle.cdb_front.specs.Followed.{Leads, Sight}
+use Rattle.cdb_engine.specs.Tracks.{Leads}
+use Rattle.cdb_front.specs.Followed.{Sight}
 use Rattle.cdb_front.specs.Kept.{kept_of}
 use Rattle.cdb_front.specs.Stepping.{Counts}
 use Rattle.cdb_front.specs.declared.fed.Fed.{Fed}
@@ -45,13 +46,15 @@ Runs Has None items answers Now = Unit {0}
 Runs Has (Some base) items answers Now = Leads (Run Has (start_at base.list) items answers) Now
 
 -- whatever the disk holds, the answers are those of a run from some beginning over these items, to a state of now
-pub record Ordered (Has : Text → Content → Type 0) (items : List Item) (answers : List machine.Answer) (Now : StateIn any_store → Type 0) : Type 0 where
+pub record Ordered (Has : Text → Content → Type 0) (items : List Item) (answers : List machine.Answer)
+    (Now : StateIn any_store → Type 0) : Type 0 where
   pub start : StateIn any_store
   pub fresh : IsFreshIn any_store start
   pub leads : Leads (RunIn any_store Has start items answers) Now
 
 -- items were gone through and their answers written
-pub record Told (tells : Type 0) (e : Entry) (items : List Item) (written : Option (List ℕ)) (shelf disk : ℕ) (Now : Sight) : Type 0 where
+pub record Told (tells : Type 0) (e : Entry) (items : List Item) (written : Option (List ℕ)) (shelf disk : ℕ)
+    (Now : Sight) : Type 0 where
   pub answers : List machine.Answer
   pub run : Runs (Holds tells e.files) e.from items answers (Now known)
   pub order : Ordered (Holds tells e.files) items answers (Now any)
@@ -60,7 +63,8 @@ pub record Told (tells : Type 0) (e : Entry) (items : List Item) (written : Opti
   pub appended : Appends e.written written (texts_of answers)
 
 -- the same, but for a part of the last answer
-pub record Torn (tells : Type 0) (e : Entry) (items : List Item) (written : Option (List ℕ)) (shelf disk : ℕ) (Now : Sight) : Type 0 where
+pub record Torn (tells : Type 0) (e : Entry) (items : List Item) (written : Option (List ℕ)) (shelf disk : ℕ)
+    (Now : Sight) : Type 0 where
   pub whole : List machine.Answer
   pub answer : machine.Answer
   pub run : Runs (Holds tells e.files) e.from items (whole ++ answer ∷ []) (Now known)
@@ -74,27 +78,35 @@ pub record Torn (tells : Type 0) (e : Entry) (items : List Item) (written : Opti
   pub appended : Appends e.written written (texts_of whole ++ part)
 
 -- one item was gone through and its answers written, or a part of its one answer
-pub record Speaks (tells : Type 0) (files : FileMap) (item : Item) (before now : Option (List ℕ)) (shelf shelf' disk disk' : ℕ) (Old New : Sight) : Type 0 where
+pub record Speaks (tells : Type 0) (files : FileMap) (item : Item) (before now : Option (List ℕ))
+    (shelf shelf' disk disk' : ℕ) (Old New : Sight) : Type 0 where
   pub answers : List machine.Answer
-  pub passes : (w : Which) (s : StateIn (kind_of w)) → Old w s → Leads (PassesIn (kind_of w) (Holds tells files) s item answers) (New w)
+  pub passes : (w : Which) (s : StateIn (kind_of w)) → Old w s
+      → Leads (PassesIn (kind_of w) (Holds tells files) s item answers) (New w)
   pub shelf_counted : Counts shelf_fault shelf shelf' answers
   pub disk_counted : Counts disk_fault disk disk' answers
   pub written : Appends before now (texts_of answers)
 
-pub record Stammers (tells : Type 0) (files : FileMap) (item : Item) (before now : Option (List ℕ)) (shelf shelf' disk disk' : ℕ) (Old New : Sight) : Type 0 where
+pub record Stammers (tells : Type 0) (files : FileMap) (item : Item) (before now : Option (List ℕ))
+    (shelf shelf' disk disk' : ℕ) (Old New : Sight) : Type 0 where
   pub answer : machine.Answer
-  pub passes : (w : Which) (s : StateIn (kind_of w)) → Old w s → Leads (PassesIn (kind_of w) (Holds tells files) s item (answer ∷ [])) (New w)
+  pub passes : (w : Which) (s : StateIn (kind_of w)) → Old w s
+      → Leads (PassesIn (kind_of w) (Holds tells files) s item (answer ∷ [])) (New w)
   pub shelf_counted : Counts shelf_fault shelf shelf' (answer ∷ [])
   pub disk_counted : Counts disk_fault disk disk' (answer ∷ [])
   pub written : WritesPart before now (text_of answer)
 
-abbrev pub SpeaksFed : Type 0 → FileMap → Fed → Item → Option (List ℕ) → Option (List ℕ) → ℕ → ℕ → ℕ → ℕ → Sight → Sight → Type 0
-SpeaksFed tells files fed.More item before now shelf shelf' disk disk' Old New = Speaks tells files item before now shelf shelf' disk disk' Old New
-SpeaksFed tells files fed.Failed item before now shelf shelf' disk disk' Old New = Stammers tells files item before now shelf shelf' disk disk' Old New
+abbrev pub SpeaksFed : Type 0 → FileMap → Fed → Item → Option (List ℕ) → Option (List ℕ) → ℕ → ℕ → ℕ → ℕ → Sight
+    → Sight → Type 0
+SpeaksFed tells files fed.More item before now shelf shelf' disk disk' Old New = Speaks tells files item before now
+    shelf shelf' disk disk' Old New
+SpeaksFed tells files fed.Failed item before now shelf shelf' disk disk' Old New = Stammers tells files item before now
+    shelf shelf' disk disk' Old New
 SpeaksFed tells files fed.Quit item before now shelf shelf' disk disk' Old New = ⊥
 
 -- whole lines were read and answered, and the beginning of the next line is kept
-pub record Sofar (tells : Type 0) (e : Entry) (read : Text) (written : Option (List ℕ)) (shelf disk : ℕ) (Now : Sight) (kept : Option (List ℕ)) : Type 0 where
+pub record Sofar (tells : Type 0) (e : Entry) (read : Text) (written : Option (List ℕ)) (shelf disk : ℕ) (Now : Sight)
+    (kept : Option (List ℕ)) : Type 0 where
   pub lines : List Text
   pub rest : Text
   pub cut : Cut read lines rest
@@ -103,7 +115,8 @@ pub record Sofar (tells : Type 0) (e : Entry) (read : Text) (written : Option (L
   pub kept_is : kept ≡ kept_of rest
 
 -- what was read is answered whole, its last line too, which is `quit` or isn't
-pub record Answered (tells : Type 0) (e : Entry) (P : Text → Type 0) (read : Text) (written : Option (List ℕ)) (shelf disk : ℕ) (Now : Sight) : Type 0 where
+pub record Answered (tells : Type 0) (e : Entry) (P : Text → Type 0) (read : Text) (written : Option (List ℕ))
+    (shelf disk : ℕ) (Now : Sight) : Type 0 where
   pub lines : List Text
   pub rest : Text
   pub cut : Cut read lines rest
@@ -118,7 +131,8 @@ abbrev pub IsNotQuit : Text → Type 0
 IsNotQuit line = line_command line ≢ said.quit
 
 -- the last answer to what was read wasn't written whole; some items of the last line may not have come to their turn
-pub record Broken (tells : Type 0) (e : Entry) (read : Text) (written : Option (List ℕ)) (shelf disk : ℕ) (Now : Sight) : Type 0 where
+pub record Broken (tells : Type 0) (e : Entry) (read : Text) (written : Option (List ℕ)) (shelf disk : ℕ)
+    (Now : Sight) : Type 0 where
   pub lines : List Text
   pub rest : Text
   pub cut : Cut read lines rest
@@ -136,7 +150,8 @@ TakesLine tells e fed.Failed read written shelf disk Now = Broken tells e read w
 
 -- a byte was taken
 abbrev pub TakesByte : Type 0 → Entry → Fed → Text → ℕ → Option (List ℕ) → ℕ → ℕ → Sight → Option (List ℕ) → Type 0
-TakesByte tells e fed.More read byte written shelf disk Now kept = Sofar tells e (read ++ byte ∷ []) written shelf disk Now kept
+TakesByte tells e fed.More read byte written shelf disk Now kept = Sofar tells e (read ++ byte ∷ []) written
+    shelf disk Now kept
 TakesByte tells e fed.Quit read byte written shelf disk Now kept = Answered tells e IsQuit read written shelf disk Now
 TakesByte tells e fed.Failed read byte written shelf disk Now kept = Broken tells e read written shelf disk Now
 
@@ -148,14 +163,18 @@ pub record UpTo (piece : Text) (X : Text → Type 0) : Type 0 where
   pub reached : X front
 
 abbrev pub TakesPiece : Type 0 → Entry → Fed → Text → Text → Option (List ℕ) → ℕ → ℕ → Sight → Option (List ℕ) → Type 0
-TakesPiece tells e fed.More read piece written shelf disk Now kept = Sofar tells e (read ++ piece) written shelf disk Now kept
-TakesPiece tells e fed.Quit read piece written shelf disk Now kept = UpTo piece (λ front. Answered tells e IsQuit (read ++ front) written shelf disk Now)
-TakesPiece tells e fed.Failed read piece written shelf disk Now kept = UpTo piece (λ front. Broken tells e (read ++ front) written shelf disk Now)
+TakesPiece tells e fed.More read piece written shelf disk Now kept = Sofar tells e (read ++ piece) written
+    shelf disk Now kept
+TakesPiece tells e fed.Quit read piece written shelf disk Now kept = UpTo piece
+    (λ front. Answered tells e IsQuit (read ++ front) written shelf disk Now)
+TakesPiece tells e fed.Failed read piece written shelf disk Now kept = UpTo piece
+    (λ front. Broken tells e (read ++ front) written shelf disk Now)
 
 -- ---- a line and the steps after it
 
 -- a line was answered, but for a part of the last answer
-pub record TornIn (tells : Type 0) (e : Entry) (items more : List Item) (written : Option (List ℕ)) (shelf disk : ℕ) (Now : Sight) : Type 0 where
+pub record TornIn (tells : Type 0) (e : Entry) (items more : List Item) (written : Option (List ℕ)) (shelf disk : ℕ)
+    (Now : Sight) : Type 0 where
   pub made : List Item
   pub unmade : List Item
   pub joined : more ≡ made ++ unmade

@@ -1,5 +1,6 @@
 ghost use Rattle.std.specs.Prelude.{◌≡◌, ◌≢◌, ◌≤◌};
 ghost use Rattle.cdb_model.specs.Causes.{Rose};
+ghost use Rattle.cdb_front.specs.Failures.{WritesOnce};
 ghost use Rattle.cdb_front.specs.RunOutcome.{EndsWith};
 ghost use Rattle.cdb_front.specs.StatusCodes.{status_line};
 
@@ -29,6 +30,8 @@ pub fn end<O: Output>(output: &mut O, status: Status) -> Status
     ensures ends { EndsWith status (O.written output.old) (O.written output.new) result }
     ensures same { result ≢ Status.OutputFault → result ≡ status }
     ensures later { O.fault_count output.old ≤ O.fault_count output.new }
+    ensures once { WritesOnce result (O.fault_count output.old) (O.fault_count output.new) }
+    ensures last { status ≡ Status.OutputFault → O.fault_count output.new ≡ O.fault_count output.old }
     ensures failed { result ≡ Status.OutputFault → status ≢ Status.OutputFault
         → Rose (O.fault_count output.old) (O.fault_count output.new) }
 {

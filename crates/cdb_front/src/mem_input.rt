@@ -2,6 +2,7 @@ ghost use Rattle.std.specs.Prelude.{◌≡◌, ℕ, ◌+◌, ◌-◌, ◌^◌, �
 ghost use Rattle.std.specs.Io.KnownBytes.{ReadConsumes};
 ghost use Rattle.cdb_model.specs.Causes.{HasCause};
 ghost use Rattle.cdb_front.specs.Devices.{Supply};
+ghost use Rattle.cdb_front.specs.Failures.{FailsOnce};
 
 use crate::failed::Failed;
 use crate::input::Input;
@@ -21,7 +22,13 @@ pub struct MemInput {
 impl Model for MemInput {
     ghost Value = { Supply };
 
-    ghost view = { λ m. record { left = drop m.at m.bytes.items; most = m.piece; fails = m.fails.items; calls = m.calls; faults = m.faults } };
+    ghost view = { λ m. record {
+      left = drop m.at m.bytes.items;
+      most = m.piece;
+      fails = m.fails.items;
+      calls = m.calls;
+      faults = m.faults;
+    } };
 
     ghost invariant = { λ m. (m.at ≤ length m.bytes.items) × (0 < m.piece) };
 }
@@ -53,6 +60,7 @@ impl Input for MemInput {
         ensures count { IfOk result (λ n. n ≤ length into.old) }
         ensures bytes { ReadConsumes (Some self.old.left) (Some self.new.left) result into.new }
         ensures cause { HasCause self.old.faults self.new.faults result }
+        ensures once { FailsOnce result self.old.faults self.new.faults }
 
         // It fails at the listed calls alone, and else gives as much as it may.
         ensures listed { IsErr result ↔ Contains self.old.fails self.new.calls }

@@ -2,6 +2,7 @@ ghost use Rattle.std.specs.Prelude.{◌≡◌, ℕ, ◌+◌, ◌-◌, ◌^◌, �
 ghost use Rattle.std.specs.Io.KnownBytes.{Appends};
 ghost use Rattle.cdb_model.specs.Causes.{HasCause};
 ghost use Rattle.cdb_front.specs.Devices.{WritesLess, Receipt};
+ghost use Rattle.cdb_front.specs.Failures.{FailsOnce};
 
 use crate::failed::Failed;
 use crate::output::Output;
@@ -22,7 +23,13 @@ pub struct MemOutput {
 impl Model for MemOutput {
     ghost Value = { Receipt };
 
-    ghost view = { λ m. record { written = m.written.items; fails = m.fails.items; calls = m.calls; faults = m.faults; refused = m.refused } };
+    ghost view = { λ m. record {
+      written = m.written.items;
+      fails = m.fails.items;
+      calls = m.calls;
+      faults = m.faults;
+      refused = m.refused;
+    } };
 }
 
 impl MemOutput {
@@ -62,12 +69,15 @@ impl Output for MemOutput {
     fn write(&mut self, piece: &[u8]) -> Result<usize, Failed>
         ensures most { IfOk result (λ n. n ≤ length piece.now) }
         ensures least { IfOk result (λ n. 0 < length piece.now → 0 < n) }
-        ensures bytes { MatchResult result (λ n. Appends (Some self.old.written) (Some self.new.written) (take n piece.now)) (λ _. WritesLess (Some self.old.written) (Some self.new.written) piece.now) }
+        ensures bytes { MatchResult result (λ n. Appends (Some self.old.written) (Some self.new.written)
+            (take n piece.now)) (λ _. WritesLess (Some self.old.written) (Some self.new.written) piece.now) }
         ensures cause { HasCause self.old.faults self.new.faults result }
+        ensures once { FailsOnce result self.old.faults self.new.faults }
 
         // It fails at the listed calls, and else only where memory was refused.
         ensures listed { Contains self.old.fails self.new.calls → IsErr result }
-        ensures failed { OnErr result (Contains self.old.fails self.new.calls ⊎ (self.new.refused ≡ min (self.old.refused + 1) (2 ^ 64 - 1))) }
+        ensures failed { OnErr result (Contains self.old.fails self.new.calls
+            ⊎ (self.new.refused ≡ min (self.old.refused + 1) (2 ^ 64 - 1))) }
         ensures unrefused { Contains self.old.fails self.new.calls → self.new.refused ≡ self.old.refused }
         ensures calls { self.new.calls ≡ min (self.old.calls + 1) (2 ^ 64 - 1) }
         ensures whole { OnOk result (self.new.written ≡ self.old.written ++ piece.now) }

@@ -1,33 +1,42 @@
-ghost use Rattle.std.specs.Prelude.{◌≡◌, ◌≢◌, ◌≤◌, ◌<◌, ◌^◌, length, IfSome};
+ghost use Rattle.std.specs.Prelude.{◌≡◌, ◌≢◌, ◌+◌, ◌≤◌, ◌<◌, ◌^◌, length, IfSome};
 ghost use Rattle.cdb_model.specs.Causes.{Rose};
+ghost use Rattle.cdb_front.specs.Failures.{WritesOnce};
 ghost use Rattle.cdb_front.specs.Headline.{MeetsOf};
-ghost use Rattle.cdb_front.specs.RunOutcome.{QuitsInTime};
+ghost use Rattle.cdb_front.specs.RunOutcome.{QuitsInTime, SaysNoStore, IsClosed, status_of};
 
 use crate::end_run::end;
 use crate::exit_status::Status;
 use crate::input::Input;
 use crate::output::Output;
 use crate::script::run_script;
-use crate::store_calls::{OpenError, StoreCalls};
+use cdb_engine::{Engine, OpenError};
 use cdb_files::{Disk, Shelf};
 use std::alloc::Global;
 
-/// Opens the store on `disk`, reads a script line by line, and writes the answer to each line before it
-/// reads the next. `most` steps of a publication that is going follow each line that asks for none.
-/// Sources whose posts a file holds are read from `shelf`.
-///
-/// A line ends with a line feed or with the end of the input, and has at most 4,096 bytes. At most
-/// `2^32` bytes are taken. It ends at the end of the input, at the line `quit`, or at the first
-/// failure of the input or the output; where it ends with another status than `Done` and
-/// `OutputFault`, the last line that it writes says so.
-pub fn run_over<D: Disk, H: Shelf, E: StoreCalls<D>, I: Input, O: Output>(
+/// How a run ends that couldn't open its store.
+fn unopened(error: OpenError) -> Status
+    ensures status { result ≡ status_of error }
+    ensures closed { IsClosed result }
+    ensures fault { result ≡ Status.StoreFault → error ≡ OpenError.Fault }
+    ensures words { result ≢ Status.Usage }
+    ensures input { result ≢ Status.InputFault }
+    ensures output { result ≢ Status.OutputFault }
+{
+    match error {
+        OpenError::Memory => Status::Memory,
+        OpenError::Fault => Status::StoreFault,
+        OpenError::NotAStore { version, place } => Status::NotAStore { version, place },
+    }
+}
+
+/// Opens the store on `disk` and runs the script, with `most` steps after each line that asks for none.
+pub fn run_over<D: Disk, H: Shelf, I: Input, O: Output>(
     alloc: Global,
     most: u32,
     disk: &mut D,
     shelf: &mut H,
     input: &mut I,
     output: &mut O,
-    unused: Option<E>,
 ) -> Status
     ensures outcome { MeetsOf D.tells D.state D.clock D.since D.fault_count H.tells H.files H.fault_count I.left
         O.written disk.old disk.new shelf.old shelf.new input.old input.new output.old output.new most result }
@@ -35,6 +44,9 @@ pub fn run_over<D: Disk, H: Shelf, E: StoreCalls<D>, I: Input, O: Output>(
     ensures quits { IfSome (I.left input.old) (λ bytes. QuitsInTime bytes → result ≢ Status.TooLong) }
     ensures input_failed { result ≡ Status.InputFault → Rose (I.fault_count input.old) (I.fault_count input.new) }
     ensures store_failed { result ≡ Status.StoreFault → Rose (D.fault_count disk.old) (D.fault_count disk.new) }
+    ensures no_store { SaysNoStore D.tells (D.state disk.old).present result }
+    ensures one_read_fails { I.fault_count input.new ≤ I.fault_count input.old + 1 }
+    ensures one_write_fails { WritesOnce result (O.fault_count output.old) (O.fault_count output.new) }
     ensures output_failed { result ≡ Status.OutputFault → Rose (O.fault_count output.old) (O.fault_count output.new) }
     ensures words { result ≢ Status.Usage }
     ensures files { H.files shelf.new ≡ H.files shelf.old }
@@ -43,16 +55,11 @@ pub fn run_over<D: Disk, H: Shelf, E: StoreCalls<D>, I: Input, O: Output>(
     ensures input_later { I.fault_count input.old ≤ I.fault_count input.new }
     ensures output_later { O.fault_count output.old ≤ O.fault_count output.new }
 {
-    match E::open(alloc, disk) {
+    match Engine::open(alloc, disk) {
         Ok(mut engine) => {
             let status = run_script(alloc, &mut engine, disk, shelf, input, output, most);
             end(output, status)
         }
-        Err(OpenError::Memory) => end(output, Status::Memory),
-        Err(OpenError::Fault) => end(output, Status::StoreFault),
-        Err(OpenError::NotAStore { version, place }) => end(
-            output,
-            Status::NotAStore { version, place },
-        ),
+        Err(error) => end(output, unopened(error)),
     }
 }

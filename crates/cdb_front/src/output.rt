@@ -2,6 +2,7 @@ ghost use Rattle.std.specs.Prelude.{◌≡◌, ℕ, ◌≤◌, ◌<◌, List, le
 ghost use Rattle.std.specs.Io.KnownBytes.{Appends};
 ghost use Rattle.cdb_model.specs.Causes.{HasCause};
 ghost use Rattle.cdb_front.specs.Devices.{WritesLess};
+ghost use Rattle.cdb_front.specs.Failures.{FailsOnce};
 
 use crate::failed::Failed;
 
@@ -20,6 +21,8 @@ pub trait Output {
     fn write(&mut self, piece: &[u8]) -> Result<usize, Failed>
         ensures most { IfOk result (λ n. n ≤ length piece.now) }
         ensures least { IfOk result (λ n. 0 < length piece.now → 0 < n) }
-        ensures bytes { MatchResult result (λ n. Appends (written self.old) (written self.new) (take n piece.now)) (λ _. WritesLess (written self.old) (written self.new) piece.now) }
-        ensures cause { HasCause (fault_count self.old) (fault_count self.new) result };
+        ensures bytes { MatchResult result (λ n. Appends (written self.old) (written self.new) (take n piece.now))
+            (λ _. WritesLess (written self.old) (written self.new) piece.now) }
+        ensures cause { HasCause (fault_count self.old) (fault_count self.new) result }
+        ensures once { FailsOnce result (fault_count self.old) (fault_count self.new) };
 }

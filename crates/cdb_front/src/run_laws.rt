@@ -1,7 +1,8 @@
 //! What the runs of the program promise together. Each function does nothing; its contract is the law.
 ghost use Rattle.cdb_front.specs.Completeness.{CompletesOf};
-ghost use Rattle.cdb_front.specs.GoesOn.{GoesOnOf};
+ghost use Rattle.cdb_front.specs.Continued.{ContinuesOf};
 ghost use Rattle.cdb_front.specs.Headline.{HeadlineOf};
+ghost use Rattle.cdb_front.specs.Served.{ServesTilesOf};
 
 use crate::input::Input;
 use crate::output::Output;
@@ -25,8 +26,19 @@ pub fn completeness<D: Disk, H: Shelf, I: Input, O: Output>(
         I.fault_count O.written O.fault_count }
 {}
 
-/// A run that begins without a stop on the disk that another left finds a store again, where the disk
-/// is clear; each list that it may have holds what was opened and every acknowledged publication.
-pub fn goes_on<D: Disk, H: Shelf, I: Input, O: Output>(disk: &D, shelf: &H, input: &I, output: &O)
-    ensures { GoesOnOf D.tells D.state D.clock D.since D.fault_count H.tells H.files H.fault_count I.left O.written }
+/// Any number of runs, each over what a stop of the one before left or, where the disk is clear, on
+/// that very disk: each finds a store again, whose lists have every acknowledged publication.
+pub fn continues<D: Disk, H: Shelf, I: Input, O: Output>(disk: &D, shelf: &H, input: &I, output: &O)
+    ensures { ContinuesOf D.tells D.state D.clock D.since D.fault_count H.tells H.files H.fault_count I.left O.written }
+{}
+
+/// Each tile that a run over a store serves has the bytes of a build from nothing of the publications
+/// that its session answers from, and is missing exactly where no source of these reaches it.
+pub fn serves_tiles<D: Disk, H: Shelf, I: Input, O: Output>(
+    disk: &D,
+    shelf: &H,
+    input: &I,
+    output: &O,
+)
+    ensures { ServesTilesOf D.tells D.state D.clock D.since D.fault_count H.tells H.files H.fault_count I.left O.written }
 {}

@@ -4,6 +4,7 @@ ghost use Rattle.cdb_model.specs.AnswerTexts.{text_of};
 ghost use Rattle.cdb_model.specs.Causes.{HasCause};
 ghost use Rattle.cdb_front.specs.AnswerMeanings.{meant, HasLength};
 ghost use Rattle.cdb_front.specs.Devices.{WritesPart};
+ghost use Rattle.cdb_front.specs.Failures.{FailsOnce};
 
 use crate::answer_text::head;
 use crate::answers::Answer;
@@ -20,6 +21,7 @@ pub fn say<O: Output>(output: &mut O, answer: Answer, reply: &[u8]) -> Result<()
     ensures err { OnErr result (WritesPart (O.written output.old) (O.written output.new)
         (text_of (meant answer reply.now))) }
     ensures cause { HasCause (O.fault_count output.old) (O.fault_count output.new) result }
+    ensures once { FailsOnce result (O.fault_count output.old) (O.fault_count output.new) }
 {
     let line = head(answer);
     match answer {

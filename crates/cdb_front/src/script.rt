@@ -1,6 +1,7 @@
 ghost use Rattle.std.specs.Prelude.{◌≡◌, ◌≢◌, [], ◌+◌, ◌<◌, ◌≤◌, ◌^◌, ℕ, Option, List, length};
 ghost use Rattle.std.specs.Io.KnownBytes.{Consumes, IsAtEnd};
 ghost use Rattle.cdb_model.specs.Causes.{Rose};
+ghost use Rattle.cdb_front.specs.Failures.{WritesOnce, ReadsOnce, WritesInTurn, ReadsInTurn};
 ghost use Rattle.cdb_front.specs.RunProgress.{Entry, base_of, Told};
 ghost use Rattle.cdb_front.specs.RunOutcome.{Stops, WasOpened};
 ghost use Rattle.cdb_front.specs.RunReading.{Reading, TakesTurn, TakesSome, StopsOpened};
@@ -46,6 +47,7 @@ fn take_end<D: Disk, H: Shelf, E: StoreCalls<D>, O: Output>(
     ensures disk_later { D.fault_count disk.old ≤ D.fault_count disk.new }
     ensures later { O.fault_count output.old ≤ O.fault_count output.new }
     ensures failed { result ≡ Status.OutputFault → Rose (O.fault_count output.old) (O.fault_count output.new) }
+    ensures once { WritesOnce result (O.fault_count output.old) (O.fault_count output.new) }
 {
     match take_line(alloc, engine, disk, shelf, maker, output, most) {
         Fed::More => Status::Done,
@@ -78,6 +80,8 @@ fn take_turn<D: Disk, H: Shelf, E: StoreCalls<D>, I: Input, O: Output>(
     ensures input_failed { result ≡ Turned.Stopped Status.InputFault
         → Rose (I.fault_count input.old) (I.fault_count input.new) }
     ensures opened { StopsOpened result }
+    ensures reads { ReadsInTurn result (I.fault_count input.old) (I.fault_count input.new) }
+    ensures writes { WritesInTurn result (O.fault_count output.old) (O.fault_count output.new) }
     ensures output_later { O.fault_count output.old ≤ O.fault_count output.new }
     ensures output_failed { result ≡ Turned.Stopped Status.OutputFault
         → Rose (O.fault_count output.old) (O.fault_count output.new) }
@@ -127,6 +131,8 @@ pub fn run_script<D: Disk, H: Shelf, E: StoreCalls<D>, I: Input, O: Output>(
     ensures input_later { I.fault_count input.old ≤ I.fault_count input.new }
     ensures input_failed { result ≡ Status.InputFault → Rose (I.fault_count input.old) (I.fault_count input.new) }
     ensures opened { WasOpened result }
+    ensures reads { ReadsOnce result (I.fault_count input.old) (I.fault_count input.new) }
+    ensures writes { WritesOnce result (O.fault_count output.old) (O.fault_count output.new) }
     ensures output_later { O.fault_count output.old ≤ O.fault_count output.new }
     ensures output_failed { result ≡ Status.OutputFault → Rose (O.fault_count output.old) (O.fault_count output.new) }
     ensures files { H.files shelf.new ≡ H.files shelf.old }

@@ -10,7 +10,8 @@ ghost use Rattle.cdb_model.specs.Runs.{line as an_item, late as trail_item};
 ghost use Rattle.cdb_model.specs.Stores.{Which, kind_of};
 ghost use Rattle.cdb_model.specs.Transitions.{StateIn};
 ghost use Rattle.cdb_front.specs.AnswerMeanings.{meant, HasLength};
-ghost use Rattle.cdb_front.specs.Followed.{Leads};
+ghost use Rattle.cdb_engine.specs.Tracks.{Leads};
+ghost use Rattle.cdb_front.specs.Failures.{FedOnce};
 ghost use Rattle.cdb_front.specs.Hearing.{IsEvent, IsAnswered, SaysAsked};
 ghost use Rattle.cdb_front.specs.RunProgress.{Entry, Holds, base_of, Told, TellsFed, Sofar, SpeaksFed, TakesLine, TakesByte, TakesPiece};
 ghost use Rattle.cdb_front.specs.Stepping.{Counts};
@@ -119,6 +120,7 @@ fn reply<D: Disk, H: Shelf, E: StoreCalls<D>, O: Output>(
     ensures disk_later { D.fault_count disk.old ≤ D.fault_count disk.new }
     ensures later { O.fault_count output.old ≤ O.fault_count output.new }
     ensures failed { result ≡ Fed.Failed → Rose (O.fault_count output.old) (O.fault_count output.new) }
+    ensures once { FedOnce result (O.fault_count output.old) (O.fault_count output.new) }
 {
     let answer = answer(alloc, engine, disk, shelf, asked);
     match say(output, answer, engine.reply()) {
@@ -143,6 +145,7 @@ fn trail<D: Disk, H: Shelf, E: StoreCalls<D>, O: Output>(
     ensures disk_later { D.fault_count disk.old ≤ D.fault_count disk.new }
     ensures later { O.fault_count output.old ≤ O.fault_count output.new }
     ensures failed { result ≡ Fed.Failed → Rose (O.fault_count output.old) (O.fault_count output.new) }
+    ensures once { FedOnce result (O.fault_count output.old) (O.fault_count output.new) }
 {
     match late(make_steps(engine, disk, most)) {
         None => Fed::More,
@@ -176,6 +179,7 @@ fn answer_event<D: Disk, H: Shelf, E: StoreCalls<D>, O: Output>(
     ensures disk_later { D.fault_count disk.old ≤ D.fault_count disk.new }
     ensures later { O.fault_count output.old ≤ O.fault_count output.new }
     ensures failed { result ≡ Fed.Failed → Rose (O.fault_count output.old) (O.fault_count output.new) }
+    ensures once { FedOnce result (O.fault_count output.old) (O.fault_count output.new) }
 {
     let steps = due(most, &asked);
     match reply(alloc, engine, disk, shelf, output, asked) {
@@ -205,6 +209,7 @@ pub fn take_line<D: Disk, H: Shelf, E: StoreCalls<D>, O: Output>(
     ensures disk_later { D.fault_count disk.old ≤ D.fault_count disk.new }
     ensures later { O.fault_count output.old ≤ O.fault_count output.new }
     ensures failed { result ≡ Fed.Failed → Rose (O.fault_count output.old) (O.fault_count output.new) }
+    ensures once { FedOnce result (O.fault_count output.old) (O.fault_count output.new) }
 {
     match read_kept(maker) {
         Heard::Blank => Fed::More,
@@ -236,6 +241,7 @@ fn take_byte<D: Disk, H: Shelf, E: StoreCalls<D>, O: Output>(
     ensures disk_later { D.fault_count disk.old ≤ D.fault_count disk.new }
     ensures later { O.fault_count output.old ≤ O.fault_count output.new }
     ensures failed { result ≡ Fed.Failed → Rose (O.fault_count output.old) (O.fault_count output.new) }
+    ensures once { FedOnce result (O.fault_count output.old) (O.fault_count output.new) }
 {
     if byte != b'\n' {
         maker.push(byte);
@@ -273,6 +279,7 @@ pub fn take_piece<D: Disk, H: Shelf, E: StoreCalls<D>, O: Output>(
     ensures disk_later { D.fault_count disk.old ≤ D.fault_count disk.new }
     ensures later { O.fault_count output.old ≤ O.fault_count output.new }
     ensures failed { result ≡ Fed.Failed → Rose (O.fault_count output.old) (O.fault_count output.new) }
+    ensures once { FedOnce result (O.fault_count output.old) (O.fault_count output.new) }
 {
     for byte in piece {
         match take_byte(alloc, engine, disk, shelf, maker, output, most, *byte) {

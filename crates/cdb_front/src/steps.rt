@@ -7,11 +7,13 @@ ghost use Rattle.cdb_model.specs.Runs.{behind};
 ghost use Rattle.cdb_model.specs.Stores.{Which, kind_of};
 ghost use Rattle.cdb_model.specs.Transitions.{StateIn, MakesIn, HastensIn, CompletesIn};
 ghost use Rattle.cdb_front.specs.AnswerMeanings.{meant, said_late, IsBare, IsQuiet};
-ghost use Rattle.cdb_front.specs.Followed.{Leads};
-ghost use Rattle.cdb_front.specs.Stepping.{Counts, step_end, AdvanceCause};
+ghost use Rattle.cdb_engine.specs.Tracks.{Leads};
+ghost use Rattle.cdb_engine.specs.StoreAnswers.{AdvanceCause};
+ghost use Rattle.cdb_front.specs.Stepping.{Counts, step_end};
 
 use crate::answers::Answer;
-use crate::store_calls::{AdvanceError, Progress, StoreCalls};
+use crate::store_calls::StoreCalls;
+use cdb_engine::{AdvanceError, Progress};
 use cdb_files::Disk;
 
 /// What is said once a step was tried: nothing while the publication goes on.

@@ -1,9 +1,11 @@
-ghost use Rattle.std.specs.Prelude.{◌≡◌, ◌≢◌, ◌⊎◌, ◌≤◌, Some, map};
+ghost use Rattle.std.specs.Prelude.{◌≡◌, ◌≢◌, ◌+◌, ◌⊎◌, ◌≤◌, Some, map};
 ghost use Rattle.cdb_commands.specs.Options.{options_of};
 ghost use Rattle.cdb_commands.specs.declared.options.Mode.TheVariants.{Run};
 ghost use Rattle.cdb_commands.specs.declared.options.Options.{Options as given};
 ghost use Rattle.cdb_model.specs.Causes.{Rose};
+ghost use Rattle.cdb_front.specs.Failures.{WritesOnce};
 ghost use Rattle.cdb_front.specs.Headline.{MeetsOf};
+ghost use Rattle.cdb_front.specs.RunOutcome.{SaysNoStore};
 ghost use Rattle.cdb_front.specs.WordedRuns.{IsNoRun};
 
 use crate::end_run::end;
@@ -11,22 +13,29 @@ use crate::exit_status::Status;
 use crate::input::Input;
 use crate::opened_run::run_over;
 use crate::output::Output;
-use crate::store_calls::StoreCalls;
 use cdb_commands::{Mode, WordsError, read_words};
 use cdb_files::{Disk, Shelf};
 use std::alloc::Global;
 
-/// Runs the program with these words, which don't hold its own name: `run_over` with as many steps
-/// after a line as they say. `Usage` where they aren't options of the program, or ask for another mode
-/// than `run`, which aren't built; nothing is opened then.
-pub fn run_words<D: Disk, H: Shelf, E: StoreCalls<D>, I: Input, O: Output>(
+/// Runs the program with these words, which don't hold its own name. `Usage` where they aren't options
+/// of the program, or ask for another mode than `run`, which aren't built; nothing is opened then.
+///
+/// Else it opens the store on `disk`, reads a script from `input` line by line, and writes the answer
+/// to each line to `output` before it reads the next. As many steps of a publication that is going as
+/// the words say follow each line that asks for none. Sources whose posts a file holds are read from
+/// `shelf`.
+///
+/// A line ends with a line feed or with the end of the input, and has at most 4,096 bytes. At most
+/// `2^32` bytes are taken. The run ends at the end of the input, at the line `quit`, or at the first
+/// failure of the input or the output; where it ends with another status than `Done` and
+/// `OutputFault`, the last line that it writes says so.
+pub fn cdb_run<D: Disk, H: Shelf, I: Input, O: Output>(
     alloc: Global,
     words: &[&str],
     disk: &mut D,
     shelf: &mut H,
     input: &mut I,
     output: &mut O,
-    unused: Option<E>,
 ) -> Status
     ensures outcome { (options : given) → options_of (map (λ s. s.now) words.now) ≡ Some options → options.mode ≡ Run
         → MeetsOf D.tells D.state D.clock D.since D.fault_count H.tells H.files H.fault_count I.left O.written
@@ -37,6 +46,9 @@ pub fn run_words<D: Disk, H: Shelf, E: StoreCalls<D>, I: Input, O: Output>(
         → (result ≡ Status.Usage) ⊎ ((result ≡ Status.Memory) ⊎ (result ≡ Status.OutputFault)) }
     ensures input_failed { result ≡ Status.InputFault → Rose (I.fault_count input.old) (I.fault_count input.new) }
     ensures store_failed { result ≡ Status.StoreFault → Rose (D.fault_count disk.old) (D.fault_count disk.new) }
+    ensures no_store { SaysNoStore D.tells (D.state disk.old).present result }
+    ensures one_read_fails { I.fault_count input.new ≤ I.fault_count input.old + 1 }
+    ensures one_write_fails { WritesOnce result (O.fault_count output.old) (O.fault_count output.new) }
     ensures output_failed { result ≡ Status.OutputFault → Rose (O.fault_count output.old) (O.fault_count output.new) }
     ensures files { H.files shelf.new ≡ H.files shelf.old }
     ensures disk_later { D.fault_count disk.old ≤ D.fault_count disk.new }
@@ -59,6 +71,5 @@ pub fn run_words<D: Disk, H: Shelf, E: StoreCalls<D>, I: Input, O: Output>(
         shelf,
         input,
         output,
-        unused,
     )
 }

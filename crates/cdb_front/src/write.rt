@@ -2,6 +2,7 @@ ghost use Rattle.std.specs.Prelude.{◌≡◌, ◌++◌, OnOk, OnErr};
 ghost use Rattle.std.specs.Io.KnownBytes.{Appends};
 ghost use Rattle.cdb_model.specs.Causes.{HasCause};
 ghost use Rattle.cdb_front.specs.Devices.{WritesPart};
+ghost use Rattle.cdb_front.specs.Failures.{FailsOnce};
 
 use crate::failed::Failed;
 use crate::output::Output;
@@ -12,6 +13,7 @@ pub fn write_all<O: Output>(output: &mut O, piece: &[u8]) -> Result<(), Failed>
     ensures ok { OnOk result (Appends (O.written output.old) (O.written output.new) piece.now) }
     ensures err { OnErr result (WritesPart (O.written output.old) (O.written output.new) piece.now) }
     ensures cause { HasCause (O.fault_count output.old) (O.fault_count output.new) result }
+    ensures once { FailsOnce result (O.fault_count output.old) (O.fault_count output.new) }
 {
     let mut rest = piece;
     while !rest.is_empty() {
@@ -29,6 +31,7 @@ pub fn write_both<O: Output>(output: &mut O, first: &[u8], second: &[u8]) -> Res
     ensures ok { OnOk result (Appends (O.written output.old) (O.written output.new) (first.now ++ second.now)) }
     ensures err { OnErr result (WritesPart (O.written output.old) (O.written output.new) (first.now ++ second.now)) }
     ensures cause { HasCause (O.fault_count output.old) (O.fault_count output.new) result }
+    ensures once { FailsOnce result (O.fault_count output.old) (O.fault_count output.new) }
 {
     match write_all(output, first) {
         Ok(()) => write_all(output, second),

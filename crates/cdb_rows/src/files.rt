@@ -1,7 +1,7 @@
 //! Sources from files of the shelf.
 
 use crate::raster::{has_rasters, tile_after};
-use crate::script::run_over;
+use crate::script::{BY_HAND, new_disk, run_with};
 use crate::tiff::{BIG, LITTLE, changed, large};
 use cdb_files::Path;
 use cdb_front::{MemOutput, Status};
@@ -24,7 +24,13 @@ fn answers(
     let mut calls = Vec::new(alloc);
     calls.push(fails)?;
     let mut shelf = MemShelf::new(files, calls);
-    run_over(alloc, &mut shelf, script, 4096, 0, 0)
+    run_with(
+        alloc,
+        &BY_HAND,
+        &mut new_disk(alloc, 0)?,
+        &mut shelf,
+        script,
+    )
 }
 
 const FOUR_POSTS: &[u8] =

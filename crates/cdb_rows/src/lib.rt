@@ -1,6 +1,10 @@
-//! Worked scripts over the top call, as tests alone.
+//! Worked runs of the program over a disk in memory, as tests alone.
 #![tactic(auto)]
 
+#[cfg(test)]
+mod built;
+#[cfg(test)]
+mod damage;
 #[cfg(test)]
 mod failures;
 #[cfg(test)]
@@ -18,4 +22,10 @@ mod refusals;
 #[cfg(test)]
 mod script;
 #[cfg(test)]
+mod stops;
+#[cfg(test)]
+mod store;
+#[cfg(test)]
 mod tiff;
+#[cfg(test)]
+mod words;

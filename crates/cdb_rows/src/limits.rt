@@ -1,6 +1,6 @@
 //! The limits of a run: sessions, pending sources, and the length of a line.
 
-use crate::script::{PIECES, run};
+use crate::script::{PIECES, new_disk, run_in_pieces};
 use cdb_front::Status;
 use std::test::Fail;
 
@@ -34,7 +34,14 @@ fn limits_are_kept(rt: HostRuntime) -> Result<(), Fail> {
             script.extend_from_slice(limit.line)?;
         }
         for piece in PIECES {
-            let (status, output) = run(rt.alloc(), script.as_slice(), piece)?;
+            let (status, output) = run_in_pieces(
+                rt.alloc(),
+                &mut new_disk(rt.alloc(), 0)?,
+                script.as_slice(),
+                piece,
+                0,
+                0,
+            )?;
             assert_eq!(rt; status, Status::Done);
             assert!(rt; output.written().ends_with(limit.last));
         }
@@ -48,7 +55,14 @@ fn long_lines_have_one_answer(rt: HostRuntime) -> Result<(), Fail> {
         let mut script = vec![in rt.alloc(); b'x'; length]?;
         script.extend_from_slice(b"\nopen\n")?;
         for piece in PIECES {
-            let (status, output) = run(rt.alloc(), script.as_slice(), piece)?;
+            let (status, output) = run_in_pieces(
+                rt.alloc(),
+                &mut new_disk(rt.alloc(), 0)?,
+                script.as_slice(),
+                piece,
+                0,
+                0,
+            )?;
             assert_eq!(rt; status, Status::Done);
             assert_eq!(rt; output.written(), b"refused long\nsession 1 0\n".as_slice());
         }
@@ -57,7 +71,14 @@ fn long_lines_have_one_answer(rt: HostRuntime) -> Result<(), Fail> {
     let mut script = vec![in rt.alloc(); b'x'; 4096]?;
     script.push(b'\n')?;
     script.extend_from_slice(&[b'y'; 5000])?;
-    let (status, output) = run(rt.alloc(), script.as_slice(), 4096)?;
+    let (status, output) = run_in_pieces(
+        rt.alloc(),
+        &mut new_disk(rt.alloc(), 0)?,
+        script.as_slice(),
+        4096,
+        0,
+        0,
+    )?;
     assert_eq!(rt; status, Status::Done);
     assert_eq!(rt;
         output.written(),

@@ -1,7 +1,8 @@
-//! Runs of the top call over devices in memory.
+//! Runs of the program over devices in memory.
 
+use cdb_files::Disk;
 use cdb_front::{MemInput, MemOutput, Status, cdb_run};
-use cdb_memfiles::MemShelf;
+use cdb_memfiles::{MemDisk, MemShelf};
 use std::alloc::Global;
 use std::collections::BTreeMap;
 use std::test::Fail;
@@ -25,35 +26,40 @@ pub const HEAD: [u8; 186] = [
 /// The sizes of the pieces in which an input comes.
 pub const PIECES: [usize; 3] = [1, 3, 4096];
 
-/// A script, and what is written in answer to it.
+/// The words of a run that makes no step but those that are asked for.
+pub const BY_HAND: [&str; 2] = ["--background", "0"];
+
+/// A script and what is written in answer to it over a new store, and the same of a second run, which
+/// opens that store again.
 #[derive(Drop)]
 pub struct Row {
     pub script: &'static [u8],
     pub answers: &'static [&'static [u8]],
+    pub reopened: &'static [u8],
+    pub again: &'static [&'static [u8]],
 }
 
-/// Runs a script that comes in pieces of at most `piece` bytes, or of one byte for 0, over an empty
-/// shelf, and gives what was written.
-pub fn run(alloc: Global, script: &[u8], piece: usize) -> Result<(Status, MemOutput), Fail> {
-    run_with(alloc, script, piece, 0, 0)
+/// An empty disk, whose call of this number fails.
+pub fn new_disk(alloc: Global, fails: u64) -> Result<MemDisk, Fail> {
+    let mut calls = Vec::new(alloc);
+    calls.push(fails)?;
+    Ok(MemDisk::new(alloc, calls))
 }
 
-/// The same, where the call of the input and the call of the output of these numbers fail.
-pub fn run_with(
+/// Runs a script over the disk and an empty shelf.
+pub fn run<D: Disk>(
     alloc: Global,
+    disk: &mut D,
     script: &[u8],
-    piece: usize,
-    read: u64,
-    write: u64,
 ) -> Result<(Status, MemOutput), Fail> {
-    let mut shelf = MemShelf::new(BTreeMap::new(alloc), Vec::new(alloc));
-    run_over(alloc, &mut shelf, script, piece, read, write)
+    run_in_pieces(alloc, disk, script, 4096, 0, 0)
 }
 
-/// The same over a shelf.
-pub fn run_over(
+/// The same of a script that comes in pieces of at most `piece` bytes, where the call of the input and the
+/// call of the output of these numbers fail.
+pub fn run_in_pieces<D: Disk>(
     alloc: Global,
-    shelf: &mut MemShelf,
+    disk: &mut D,
     script: &[u8],
     piece: usize,
     read: u64,
@@ -63,20 +69,46 @@ pub fn run_over(
     reads.push(read)?;
     let mut writes = Vec::new(alloc);
     writes.push(write)?;
+    let mut shelf = MemShelf::new(BTreeMap::new(alloc), Vec::new(alloc));
     let mut input = MemInput::new(Vec::from_slice(alloc, script)?, piece.max(1), reads);
     let mut output = MemOutput::new(alloc, writes);
-    let status = cdb_run(alloc, shelf, &mut input, &mut output);
+    let status = cdb_run(alloc, &BY_HAND, disk, &mut shelf, &mut input, &mut output);
     Ok((status, output))
 }
 
-/// Whether a script has these answers, in whatever pieces it comes.
+/// Runs a script with these words over the disk and the shelf.
+pub fn run_with(
+    alloc: Global,
+    words: &[&str],
+    disk: &mut MemDisk,
+    shelf: &mut MemShelf,
+    script: &[u8],
+) -> Result<(Status, MemOutput), Fail> {
+    let mut input = MemInput::new(Vec::from_slice(alloc, script)?, 4096, Vec::new(alloc));
+    let mut output = MemOutput::new(alloc, Vec::new(alloc));
+    let status = cdb_run(alloc, words, disk, shelf, &mut input, &mut output);
+    Ok((status, output))
+}
+
+/// Whether a run over the disk ends well and writes these answers.
+pub fn answers(
+    alloc: Global,
+    disk: &mut MemDisk,
+    script: &[u8],
+    piece: usize,
+    answers: &[&[u8]],
+) -> Result<bool, Fail> {
+    let (status, output) = run_in_pieces(alloc, disk, script, piece, 0, 0)?;
+    Ok(status == Status::Done && output.refused() == 0 && is_joined(output.written(), answers))
+}
+
+/// Whether a row's two runs are answered, in whatever pieces the scripts come.
 pub fn is_answered(alloc: Global, row: &Row) -> Result<bool, Fail> {
     for piece in PIECES {
-        let (status, output) = run(alloc, row.script, piece)?;
-        if status != Status::Done || output.refused() != 0 {
-            return Ok(false);
-        }
-        if !is_joined(output.written(), row.answers) {
+        let mut disk = MemDisk::new(alloc, Vec::new(alloc));
+        if !answers(alloc, &mut disk, row.script, piece, row.answers)?
+            || !answers(alloc, &mut disk, row.reopened, piece, row.again)?
+        {
             return Ok(false);
         }
     }

@@ -5,8 +5,7 @@ use Rattle.cdb_source.specs.declared.head.SourceHead.{SourceHead}
 use Rattle.cdb_source.specs.Posts.{IsAllowed}
 use Rattle.cdb_model.specs.Text.{last_first}
 use Rattle.cdb_model.specs.Spelled.{row_of_pixels}
-use Rattle.cdb_engine.proofs.RowLaws.{on_err, all_of_row, one_more_row}
-use Rattle.cdb_engine.proofs.RasterLaws.{row_read}
+use Rattle.cdb_engine.proofs.RowLaws.{on_err, all_of_row, one_more_row, row_read}
 use Rattle.cdb_engine.proofs.SpelledLaws.{not_allowed}
 use Rattle.cdb_engine.proofs.image_rows.push_rows.Goals as goal
 

@@ -3,7 +3,8 @@ use Rattle.cdb_front.proofs.RunProgress.{byte_kept, line_passed}
 use Rattle.cdb_front.proofs.script_lines.take_byte.Goals as goal
 
 pub returns-then-byte-ne10-clause-byte : goal.returns-then-byte-ne10-clause-byte
-returns-then-byte-ne10-clause-byte g c = λ e read same most sofar. byte_kept c.args.byte c.push.new.self c.push.ensures c.if-byte-ne10.true sofar
+returns-then-byte-ne10-clause-byte g c = λ e read same most sofar. byte_kept c.args.byte c.push.new.self c.push.ensures
+    c.if-byte-ne10.true sofar
 
 pub returns-in-More-clause-byte : goal.returns-in-More-clause-byte
 returns-in-More-clause-byte g c = λ e read same most sofar.

@@ -11,5 +11,8 @@ returns-in-Quit-clause-line g c = λ e read same most sofar. line_quit c.in-Quit
 
 pub returns-in-Event-clause-line : goal.returns-in-Event-clause-line
 returns-in-Event-clause-line g c = λ e read same most sofar.
-    takes_event c.answer_event.result (g.O.Output.written c.answer_event.new.output) (g.H.Shelf.fault_count c.answer_event.new.shelf) (g.D.Disk.fault_count c.answer_event.new.disk) (g.E.StoreCalls.stays c.answer_event.new.engine c.answer_event.new.disk (base_of e.from))
-    c.in-Event.asked c.in-Event.ensures.heard c.in-Event.ensures.said sofar (λ command says. c.answer_event.ensures.told e (items_of e.most sofar.lines) command says same most sofar.told)
+    takes_event c.answer_event.result (g.O.Output.written c.answer_event.new.output)
+    (g.H.Shelf.fault_count c.answer_event.new.shelf) (g.D.Disk.fault_count c.answer_event.new.disk)
+    (g.E.StoreCalls.stays c.answer_event.new.engine c.answer_event.new.disk (base_of e.from))
+    c.in-Event.asked c.in-Event.ensures.heard c.in-Event.ensures.said sofar
+    (λ command says. c.answer_event.ensures.told e (items_of e.most sofar.lines) command says same most sofar.told)

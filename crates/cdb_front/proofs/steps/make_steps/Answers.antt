@@ -21,8 +21,10 @@ loop-preserved g c = record {
       let Old = g.E.StoreCalls.stays c.loop.engine c.loop.disk base w in
       let New = g.E.StoreCalls.stays c.step.new.self c.step.new.disk base w in
       let e : c.args.most - c.loop.counter ≡ suc (c.args.most - (c.loop.counter + 1)) = omega arith in
-      stepped_by (kind_of w) c.args.most (c.args.most - (c.loop.counter + 1)) s Old New c.step.result None (c.in-None.ensures.said [])
-      (subst (λ (n : ℕ). Partway (kind_of w) c.args.most n s Old) e (c.loop.invariant.partway w base s stays)) (λ mid now. c.step.ensures.step w base mid now);
+      stepped_by (kind_of w) c.args.most (c.args.most - (c.loop.counter + 1)) s Old New c.step.result None
+      (c.in-None.ensures.said [])
+      (subst (λ (n : ℕ). Partway (kind_of w) c.args.most n s Old) e (c.loop.invariant.partway w base s stays))
+      (λ mid now. c.step.ensures.step w base mid now);
   reply = c.step.ensures.reply ∙ c.loop.invariant.reply;
   later = omega (arith, c.step.ensures.later, c.loop.invariant.later);
 }
@@ -33,11 +35,14 @@ returns-in-Some-clause-makes g c = λ w base s stays.
     let New = g.E.StoreCalls.stays c.step.new.self c.step.new.disk base w in
     let reply = (g.E.StoreCalls.bytes c.step.new.self) in
     let e : c.args.most - c.loop.counter ≡ suc (c.args.most - (c.loop.counter + 1)) = omega arith in
-    stepped_by (kind_of w) c.args.most (c.args.most - (c.loop.counter + 1)) s Old New c.step.result (Some (meant c.in-Some.answer reply)) (c.in-Some.ensures.said reply)
-    (subst (λ (n : ℕ). Partway (kind_of w) c.args.most n s Old) e (c.loop.invariant.partway w base s stays)) (λ mid now. c.step.ensures.step w base mid now)
+    stepped_by (kind_of w) c.args.most (c.args.most - (c.loop.counter + 1)) s Old New c.step.result
+    (Some (meant c.in-Some.answer reply)) (c.in-Some.ensures.said reply)
+    (subst (λ (n : ℕ). Partway (kind_of w) c.args.most n s Old) e (c.loop.invariant.partway w base s stays))
+    (λ mid now. c.step.ensures.step w base mid now)
 
 pub returns-clause-makes : goal.returns-clause-makes
 returns-clause-makes g c = λ w base s stays.
     let Now = g.E.StoreCalls.stays c.loop.engine c.loop.disk base w in
     let e : c.args.most - c.loop.counter ≡ 0 = omega arith in
-    partway_out (kind_of w) c.args.most s Now (subst (λ (n : ℕ). Partway (kind_of w) c.args.most n s Now) e (c.loop.invariant.partway w base s stays))
+    partway_out (kind_of w) c.args.most s Now
+    (subst (λ (n : ℕ). Partway (kind_of w) c.args.most n s Now) e (c.loop.invariant.partway w base s stays))

@@ -1,19 +1,23 @@
-use Rattle.std.proofs.Common.{◌≡◌, ◌∙◌, sym, ap, subst, Result, Some}
-use Rattle.cdb_model.specs.Machine.{State, Held, Asks, session_of}
-use Rattle.cdb_engine.specs.Answers.{tile_answer}
-use Rattle.cdb_engine.specs.declared.errors.TileError.{TileError}
-use Rattle.cdb_engine.specs.declared.reply.Reply.{Reply}
-use Rattle.cdb_engine.proofs.TileAnswers.{answered, refused}
+use Rattle.std.proofs.Common.{sym, subst}
+use Rattle.cdb_sessions.specs.Sessions.{IsServed, AreCurrent, ServesCurrent}
+use Rattle.cdb_engine.specs.Held.{Held, held_of, sessions_part}
+use Rattle.cdb_engine.specs.Stays.{Stays}
+use Rattle.cdb_engine.proofs.TileTracks.{asks_then}
 use Rattle.cdb_engine.proofs.engine.Engine.tile.Goals as goal
-use Rattle.cdb_engine.proofs.engine.Engine.tile.Goals.{in-Ok, in-Err}
 
-pub returns-clause-step : goal.returns-clause-step
-returns-clause-step c =
-    let new : State = record { list = c.self.inside.publications; pending = c.self.inside.pending; going = c.self.inside.going; sessions = c.self.inside.sessions.items; opened = c.self.inside.opened } in
-    let same : new ≡ c.args.self.now.state = ap (λ (h : Held). h.state) c.self.view_is in
-    let is_open : session_of c.args.id c.self.inside.sessions.items ≡ Some c.in-Some.session = ap (session_of c.args.id) (sym c.deref.ensures.value) ∙ sym c.in-Some.ensures in
-    let Goal : Result Reply TileError → Type 0 = λ r. Asks c.args.self.now.state c.args.id c.args.tile.now (tile_answer r c.reply_with.new.reply.items) new in
-    elim c.match-reply_with.branch [
-      | in-Ok w ↦ subst Goal (sym w.result-is) (answered c.args.self.now.state new c.args.id c.args.tile.now c.in-Some.session c.up_to-sources.result.now w.in-Ok.reply c.reply_with.new.reply.items same is_open c.up_to-sources.ensures w.in-Ok.ensures)
-      | in-Err w ↦ subst Goal (sym w.result-is) (refused c.args.self.now.state new c.args.id c.args.tile.now c.in-Some.session c.reply_with.new.reply.items same is_open)
-    ]
+pub returns-clause-asks : goal.returns-clause-asks
+returns-clause-asks g c = λ w origin s stays.
+    let old : Held = held_of c.self.inside.chain c.self.inside.work c.self.inside.pending.items c.self.inside.sessions c.self.inside.halted in
+    asks_then g.D.Disk.tells g.D.Disk.clock g.D.Disk.fault_count g.D.Disk.since g.D.Disk.state c.args.disk.now c.tile.new.disk c.self.inside.chain c.self.inside.work c.self.inside.pending.items c.self.inside.halted c.args.id c.args.tile.now
+    c.self.inside.sessions c.tile.new.self c.tile.result c.tile.ensures.open c.tile.ensures.served c.tile.ensures.current (g.met.D.Disk.present_possible c.args.disk.now) c.tile.ensures.state c.tile.ensures.time c.tile.ensures.later w origin s
+    (subst (λ (h : Held). Stays g.D.Disk.tells g.D.Disk.clock g.D.Disk.fault_count g.D.Disk.since g.D.Disk.state origin c.args.disk.now h w s) (sym c.self.view_is) stays)
+
+pub returns-clause-served : goal.returns-clause-served
+returns-clause-served g c =
+    subst (λ (h : Held). IsServed g.D.Disk.tells (g.D.Disk.state c.args.disk.now).present c.args.disk.now c.tile.new.disk h.chain c.args.id c.args.tile.now (sessions_part h) c.tile.new.self c.tile.result)
+    c.self.view_is c.tile.ensures.served
+
+pub returns-clause-current : goal.returns-clause-current
+returns-clause-current g c =
+    subst (λ (h : Held). g.D.Disk.tells → AreCurrent (g.D.Disk.state c.args.disk.now).present h.kept → ServesCurrent (g.D.Disk.state c.args.disk.now).present h.sessions h.chain c.args.id c.args.tile.now c.tile.new.self c.tile.result)
+    c.self.view_is c.tile.ensures.current

@@ -11,7 +11,12 @@ returns-clause-bytes c =
     let at = c.self.inside.at in
     let v : c.args.self.now.left ≡ drop at all = ap (λ (s : Supply). s.left) (sym c.self.view_is) in
     let r : c.split_at.result.1.now ≡ drop at all = c.split_at.ensures.back ∙ ap (drop at) c.as_slice.ensures.value in
-    let f : c.copy_from_slice.new.self ≡ take n (drop at all) = c.copy_from_slice.ensures.after ∙ c.split_at-2.ensures.front ∙ ap (take n) r in
+    let f : c.copy_from_slice.new.self ≡ take n (drop at all) = c.copy_from_slice.ensures.after
+    ∙ c.split_at-2.ensures.front ∙ ap (take n) r in
     let l : length c.copy_from_slice.new.self ≡ n = omega (arith, c.copy_from_slice.ensures.len, length-take {A = ℕ}) in
-    let least : n ≡ min (min (length c.args.into.now) c.self.inside.piece) (length (drop at all)) = omega (arith, ap length r, c.min-count.ensures, c.min.ensures) in
-    (v ∙ given all c.args.into.now c.copy_from_slice.new.self at n l f, λ none room. ended all c.args.into.now c.copy_from_slice.new.self at n c.self.inside.piece (omega arith) least l none room)
+    let least : n ≡ min (min (length c.args.into.now) c.self.inside.piece) (length (drop at all)) = omega
+    (arith, ap length r, c.min-count.ensures, c.min.ensures) in (
+      v ∙ given all c.args.into.now c.copy_from_slice.new.self at n l f,
+      λ none room. ended all c.args.into.now
+          c.copy_from_slice.new.self at n c.self.inside.piece (omega arith) least l none room,
+    )

@@ -1,0 +1,132 @@
+-- The program over any number of runs, each over what a stop of the one before left, or without a stop on the very disk
+-- that it left.
+use Rattle.std.specs.Prelude.{◌≡◌, ◌⊎◌, ℕ, List, [], ◌∷◌, ◌++◌, Option, Some, Contains}
+use Rattle.std.specs.List.{AllByRecursion}
+use Rattle.cdb_model.specs.Begun.{acknowledged}
+use Rattle.cdb_model.specs.Images.{Base}
+use Rattle.cdb_model.specs.Maps.{FileMap}
+use Rattle.cdb_model.specs.Publications.{Publication}
+use Rattle.cdb_crash.specs.Crash.{IsClear}
+use Rattle.cdb_files.specs.Disk as disk
+use Rattle.cdb_files.specs.Disk.{IsImage}
+use Rattle.cdb_engine.specs.Store.{IsStore}
+use Rattle.cdb_front.specs.Headline.{Devices, Life, Goes, Reopens, AllMeet, Stops, amid, at_end}
+
+-- the next run begins on the disk as it was left, which is clear
+pub record StaysOn (v : Devices) (life next : Life v) : Type 0 where
+  pub same : v.state next.old ≡ v.state life.new
+  pub clear : IsClear (v.state life.new)
+  pub possible : IsImage (v.state life.new) (v.state life.new).present
+
+-- the next run begins over what a stop left, or without a stop
+pub data Succeeds (v : Devices) (life next : Life v) : Type 0 where
+  stopped : Reopens v life next → Succeeds v life next
+  unstopped : StaysOn v life next → Succeeds v life next
+
+-- the store that a run begins with: its list, and the others that a crash may leave up to the end of opening
+abbrev pub base_for : (v : Devices) → List Publication → List (List Publication) → Life v → Base
+base_for v list early life = record { list = list; early = early; moment = v.clock life.old }
+
+-- what a run acknowledged before a stop, or to its end. A stop within the run is one of another disk, whose calls fail
+-- from there on
+abbrev pub acked_at : (v : Devices) (life : Life v) (m : FileMap) (base : Base) → Stops v life m
+    → Goes v life (Some base)
+    → List Publication
+acked_at v life m base (amid since) goes = []
+acked_at v life m base (at_end image) goes =
+    acknowledged goes.run.begun goes.transcript.answers goes.transcript.wrote
+
+abbrev pub acked_by : (v : Devices) (life next : Life v) → Succeeds v life next → (base : Base)
+    → Goes v life (Some base) → List Publication
+acked_by v life next (stopped r) base goes = acked_at v life r.m base r.stop goes
+acked_by v life next (unstopped s) base goes =
+    acknowledged goes.run.begun goes.transcript.answers goes.transcript.wrote
+
+-- a list is the one that a run opened, followed by the first of the publications begun, with all that are to be kept
+pub record Extends (opened begun kept list : List Publication) : Type 0 where
+  pub first : List Publication
+  pub later : List Publication
+  pub more : List Publication
+  pub joined : begun ≡ first ++ later
+  pub holds : first ≡ kept ++ more
+  pub list_is : list ≡ opened ++ first
+
+-- a list is one of some
+abbrev pub IsOneOf : List (List Publication) → List Publication → Type 0
+IsOneOf [] list = ⊥
+IsOneOf (other ∷ others) list = (list ≡ other) ⊎ IsOneOf others list
+
+-- what a run may leave: that, or, where nothing is to be kept, one of the lists that a crash in opening may leave
+abbrev pub MayLeave : Base → List Publication → List Publication → List Publication → Type 0
+MayLeave base begun kept list = Extends base.list begun kept list ⊎ ((kept ≡ []) × IsOneOf base.early list)
+
+-- runs up to the last one, the latest first: the first is over this store, and each other succeeds the one before
+abbrev pub Succession : (v : Devices) → List Publication → List (List Publication) → Life v → List (Life v) → Type 0
+Succession v list early last [] = IsStore list early (v.state last.old)
+Succession v list early last (life ∷ earlier) = Succeeds v life last × Succession v list early life earlier
+
+-- a run opened a store, and each list that the next one may find is one that it may leave
+pub record FindsLeft (v : Devices) (Before : List Publication → List (List Publication) → Type 0) (life next : Life v)
+    (link : Succeeds v life next) (list : List Publication) (early : List (List Publication)) : Type 0 where
+  pub opened : List Publication
+  pub others : List (List Publication)
+  pub before : Before opened others
+  pub goes : Goes v life (Some (base_for v opened others life))
+  pub each : AllByRecursion (MayLeave (base_for v opened others life) goes.run.begun
+      (acked_by v life next link (base_for v opened others life) goes)) (list ∷ early)
+
+-- the last one finds this store: the one at first, or one that the run before may leave
+abbrev pub Finds : (v : Devices) (list : List Publication) (early : List (List Publication)) (last : Life v)
+    (earlier : List (Life v)) → Succession v list early last earlier → List Publication
+    → List (List Publication) → Type 0
+Finds v list early last [] line now others = (now ≡ list) × (others ≡ early)
+Finds v list early last (life ∷ earlier) line now others =
+    FindsLeft v (Finds v list early life earlier line.1) life last line.0 now others
+
+-- a publication was acknowledged by one of the earlier runs
+abbrev pub HasAcked : (v : Devices) (list : List Publication) (early : List (List Publication)) (last : Life v)
+    (earlier : List (Life v)) (line : Succession v list early last earlier) (now : List Publication)
+    (others : List (List Publication)) → Finds v list early last earlier line now others → Publication → Type 0
+HasAcked v list early last [] line now others finds x = ⊥
+HasAcked v list early last (life ∷ earlier) line now others finds x =
+    Contains (acked_by v life last line.0 (base_for v finds.opened finds.others life) finds.goes) x
+    ⊎ HasAcked v list early life earlier line.1 finds.opened finds.others finds.before x
+
+-- the last run finds a store, each list of which has every acknowledged publication; from there it goes on as the
+-- program promises
+pub record Carried (v : Devices) (list : List Publication) (early : List (List Publication)) (last : Life v)
+    (earlier : List (Life v)) (line : Succession v list early last earlier) : Type 0 where
+  pub now : List Publication
+  pub others : List (List Publication)
+  pub finds : Finds v list early last earlier line now others
+  pub every : (x : Publication) → HasAcked v list early last earlier line now others finds x
+      → AllByRecursion (λ l. Contains l x) (now ∷ others)
+  pub store : IsStore now others (v.state last.old)
+  pub goes : Goes v last (Some (base_for v now others last))
+
+-- over devices of which the disk tells what it holds
+abbrev pub Continues : Devices → Type 0
+Continues v = v.disk_tells → (list : List Publication) (early : List (List Publication)) (last : Life v)
+    (earlier : List (Life v)) (line : Succession v list early last earlier) → AllMeet v last earlier
+    → Carried v list early last earlier line
+
+abbrev pub ContinuesOf : {D H I O : Type 0} → Type 0 → (D → disk.State) → (D → ℕ) → (D → ℕ → FileMap → Type 0)
+    → (D → ℕ) → Type 0 → (H → FileMap) → (H → ℕ) → (I → Option (List ℕ)) → (O → Option (List ℕ)) → Type 0
+ContinuesOf {D = D} {H = H} {I = I} {O = O} disk_tells state clock since disk_faults shelf_tells files shelf_faults left
+    written =
+    Continues (record {
+      D = D;
+      H = H;
+      I = I;
+      O = O;
+      disk_tells = disk_tells;
+      state = state;
+      clock = clock;
+      since = since;
+      disk_faults = disk_faults;
+      shelf_tells = shelf_tells;
+      files = files;
+      shelf_faults = shelf_faults;
+      left = left;
+      written = written;
+    })
