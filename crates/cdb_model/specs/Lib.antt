@@ -13,9 +13,6 @@ pub mod Lines
 pub mod ImageFiles
 pub mod Sessions
 pub mod Publications
-pub mod Machine
-pub mod Run
-pub mod Acknowledged
 pub mod Records
 pub mod Stands
 pub mod Events
