@@ -8,6 +8,7 @@ use std::io::{ErrorKind, Read, Write};
 use std::test::Fail;
 
 /// A program's own name and its words.
+#[derive(Drop)]
 struct Given(&'static [&'static [u8]]);
 
 impl Env for Given {
@@ -29,20 +30,25 @@ impl Env for Given {
     }
 }
 
+/// The program's own name, which isn't text here, and its words.
+static GIVEN: [&[u8]; 5] = [b"\xFF", b"--mode", b"\xC3\xA9", b"", &[b'x'; 300]];
+
+/// A word that isn't text.
+static BROKEN: [&[u8]; 3] = [b"cdb", b"--mode", b"\xC3"];
+
 #[test]
 fn words_are_texts(rt: HostRuntime) -> Result<(), Fail> {
-    let given: &[&[u8]] = &[b"\xFF", b"--mode", "é".as_bytes(), b"", &[b'x'; 300]];
-    let words = words_of(&(Given(given), rt.alloc())).map_err(|_| "words")?;
+    let words = words_of(&(Given(&GIVEN), rt.alloc())).map_err(|_| "words")?;
     let words = texts(rt.alloc(), words.as_slice())?;
-    assert_eq!(rt; words.len(), 4);
-    assert_eq!(rt; (words[0], words[1], words[2]), ("--mode", "é", ""));
-    assert_eq!(rt; words[3].len(), 300);
-    let broken: &[&[u8]] = &[b"cdb", b"--mode", b"\xC3"];
-    assert!(rt; words_of(&(Given(broken), rt.alloc())) == Err(Status::Usage));
+    let lengths = words.iter().map(|word| word.len());
+    assert!(rt; lengths.eq([6usize, 2, 0, 300]));
+    assert!(rt; words.first() == Some(&"--mode"));
+    assert!(rt; words_of(&(Given(&BROKEN), rt.alloc())).err() == Some(Status::Usage));
     Ok(())
 }
 
 /// A device that takes and gives so many bytes, or fails, and flushes or fails.
+#[derive(Drop)]
 struct Device {
     count: Option<usize>,
     flushes: bool,

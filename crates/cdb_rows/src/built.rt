@@ -95,9 +95,9 @@ static BUILT: [(&[u8], [usize; 2]); 4] = [
         b"inline mat -9 46 7 1/2 1/2 2 2 3 5 5 3\npublish\nstep all\ninline mat -9 46 7 1/2 1/2 2 2 0 0 0 7\ninline mat -10 46 7 1 1 1 1 9\npublish\nstep all\n",
         [2, 2],
     ),
-    // No tile at all: from 50 degrees north on geocells are two degrees wide.
+    // No tile at all, since from 50 degrees north on geocells are two degrees wide; and then one.
     (
-        b"inline elev -10 50 7 1 1 1 1 5\npublish\nstep all\ninline mat -10 50 8 1 1 1 1 5\npublish\nstep all\n",
+        b"inline elev -10 50 7 1 1 1 1 5\npublish\nstep all\ninline mat -10 50 8 1 2 1 1 5\npublish\nstep all\n",
         [0, 1],
     ),
 ];

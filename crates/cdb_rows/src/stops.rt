@@ -89,13 +89,13 @@ fn a_publication_stops_at_each_call(rt: HostRuntime) -> Result<(), Fail> {
             between = between.saturating_add(1);
         }
     }
-    assert!(rt; ended && before > 60);
+    assert!(rt; ended && before > 40);
     assert_eq!(rt; between, 1);
     Ok(())
 }
 
 /// So many calls into the second run, the files of its publication are there and its head isn't.
-const MIDDLE: u64 = 70;
+const MIDDLE: u64 = 40;
 
 /// Whether the store opens at its first version once its second publication was cut off in the middle, and
 /// the recovery after that cut off after so many calls, whatever is left each time; and whether the
@@ -127,8 +127,8 @@ fn a_recovery_stops_at_each_call(rt: HostRuntime) -> Result<(), Fail> {
                 break;
             }
         }
-        // The head and the record of the first version are read, and at least five files removed.
-        assert!(rt; ended > 14);
+        // The root is synced, the head read, and each file that is left found and removed.
+        assert!(rt; ended > 10);
     }
     Ok(())
 }
@@ -183,7 +183,7 @@ fn a_publication_fails_at_each_call(rt: HostRuntime) -> Result<(), Fail> {
             }
         }
     }
-    assert!(rt; first > 60);
+    assert!(rt; first > 30);
     assert_eq!(rt; second, 1);
     Ok(())
 }
