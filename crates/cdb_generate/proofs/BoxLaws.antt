@@ -39,7 +39,14 @@ head_fits kind a b h r c al bl hl rl cl =
     record {
       row_step = is_step;
       column_step = is_step;
-      raster = record { rows_least = omega arith; rows_most = omega (arith, rl); cols_least = omega arith; cols_most = omega (arith, cl); posts_most = omega (arith, posts, rl) };
+      raster = record {
+        rows_least = omega arith;
+        rows_most = omega (arith, rl);
+        cols_least =
+            omega arith;
+        cols_most = omega (arith, cl);
+        posts_most = omega (arith, posts, rl);
+      };
       latitude = record { south = search rules; north = omega (arith, rows, al) };
       longitude = record { west = search rules; east = omega (arith, cols, bl) };
     }

@@ -18,9 +18,17 @@ without-below gap n most a b apart = elim (cases_lt n gap) [
 
 without-same : (gap m n : ℕ) → (m ≡ gap → ⊥) → (n ≡ gap → ⊥) → without gap m ≡ without gap n → m ≡ n
 without-same gap m n a b e = elim (cases_lt m gap) [
-  | inl p ↦ elim (cases_lt gap n) [ inl q ↦ omega arith | inr q ↦ elim (cases_lt n gap) [ inl r ↦ omega arith | inr r ↦ absurd (b (omega arith)) ] ]
+  | inl p ↦ elim (cases_lt gap n) [
+    | inl q ↦ omega arith
+    | inr q ↦ elim
+        (cases_lt n gap) [ inl r ↦ omega arith | inr r ↦ absurd (b (omega arith)) ]
+  ]
   | inr p ↦ elim (cases_lt gap m) [
-    | inl q ↦ elim (cases_lt gap n) [ inl r ↦ omega arith | inr r ↦ elim (cases_lt n gap) [ inl s ↦ omega arith | inr s ↦ absurd (b (omega arith)) ] ]
+    | inl q ↦ elim (cases_lt gap n) [
+      | inl r ↦ omega arith
+      | inr r ↦ elim
+          (cases_lt n gap) [ inl s ↦ omega arith | inr s ↦ absurd (b (omega arith)) ]
+    ]
     | inr q ↦ absurd (a (omega arith))
   ]
 ]
@@ -41,7 +49,8 @@ few (suc most) code (x ∷ xs) once told =
     λ t c e. once_head x xs once (subst (λ y. Contains xs y) (told.same t x (there t c) here e) c) in
     let rest : AreTold (λ t. without (code x) (code t)) most xs = record {
       below = λ t c. without-below (code x) (code t) most (told.below t (there t c)) (told.below x here) (apart t c);
-      same = λ t u c d e. told.same t u (there t c) (there u d) (without-same (code x) (code t) (code u) (apart t c) (apart u d) e);
+      same = λ t u c d e. told.same t u (there t c) (there u d) (without-same (code x) (code t) (code u)
+          (apart t c) (apart u d) e);
     } in
     let le : length xs ≤ most = few most (λ t. without (code x) (code t)) xs (once_tail x xs once) rest in
     let all : suc (length xs) ≤ suc most = omega arith in all

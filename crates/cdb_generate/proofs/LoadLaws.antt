@@ -46,8 +46,12 @@ height_high (pos l) n small e = omega (arith, ints, e)
 height_high (negsuc l) n small e = omega arith
 
 span_most : (kind : Kind) (r s : ℕ) → r ≤ 64 → span kind r (size_of (pos s)) ≤ 64 * s
-span_most Elevation r s few = let m : (r - 1) * s ≤ 64 * s = mul-le-mul_right s (omega arith) in let goal : (r - 1) * (s + 0) ≤ 64 * s = omega arith in goal
-span_most Material r s few = let m : r * s ≤ 64 * s = mul-le-mul_right s few in let goal : r * (s + 0) ≤ 64 * s = omega arith in goal
+span_most Elevation r s few =
+    let m : (r - 1) * s ≤ 64 * s = mul-le-mul_right s (omega arith) in
+    let goal : (r - 1) * (s + 0) ≤ 64 * s = omega arith in goal
+span_most Material r s few =
+    let m : r * s ≤ 64 * s = mul-le-mul_right s few in
+    let goal : r * (s + 0) ≤ 64 * s = omega arith in goal
 
 most_64 : (n r : ℕ) → r ≡ 1 + n % 64 → r ≤ 64
 most_64 n r e = omega arith
@@ -61,17 +65,23 @@ small_head x head d =
     record {
       low = height_low head.level.number (drawn 2 x % 8) (below_8 (drawn 2 x)) d.level;
       high = height_high head.level.number (drawn 2 x % 8) (below_8 (drawn 2 x)) d.level;
-      rows = subst (λ (z : ℤ). span head.kind head.rows (size_of z) ≤ 64 * s) (sym d.dlat) (span_most head.kind head.rows s (most_64 (drawn 5 x) head.rows d.rows));
-      cols = subst (λ (z : ℤ). span head.kind head.cols (size_of z) ≤ 64 * s) (sym d.dlon) (span_most head.kind head.cols s (most_64 (drawn 6 x) head.cols d.cols));
+      rows = subst (λ (z : ℤ). span head.kind head.rows (size_of z) ≤ 64 * s) (sym d.dlat)
+          (span_most head.kind head.rows s (most_64 (drawn 5 x) head.rows d.rows));
+      cols = subst (λ (z : ℤ). span head.kind head.cols (size_of z) ≤ 64 * s) (sym d.dlon)
+          (span_most head.kind head.cols s (most_64 (drawn 6 x) head.cols d.cols));
     }
 
 -- ---- one axis
 
 less_times : (m n w : ℕ) → m * w < n * w → m < n
-less_times m n w lt = elim (cases_lt m n) [ inl p ↦ p | inr p ↦ let q : n * w ≤ m * w = mul-le-mul_right w p in absurd (omega arith) ]
+less_times m n w lt = elim (cases_lt m n) [
+  | inl p ↦ p
+  | inr p ↦ let q : n * w ≤ m * w = mul-le-mul_right w p in absurd (omega arith)
+]
 
 -- a part of an axis that holds a place of a box that spans at most four parts is one of five
-five : (near place extent n reach : ℕ) → 1 ≤ extent → n * extent ≤ place → place < n * extent + extent → near ≤ place → place ≤ near + reach
+five : (near place extent n reach : ℕ) → 1 ≤ extent → n * extent ≤ place → place < n * extent + extent
+    → near ≤ place → place ≤ near + reach
     → reach ≤ 4 * extent → (near / extent ≤ n) × (n < near / extent + 5)
 five near place extent n reach p low high from to few =
     let q : near / extent * extent + near % extent ≡ near = div-add-mod' near extent in
@@ -84,10 +94,12 @@ not_past : (kind : Kind) (x edge : ℕ) → IsBefore kind x edge → x ≤ edge
 not_past Elevation x edge b = b
 not_past Material x edge b = omega arith
 
-five_of : (kind : Kind) (s near reach extent n : ℕ) → 1 ≤ extent → reach ≤ 4 * extent → HasPlace kind s near (near + reach) extent n
+five_of : (kind : Kind) (s near reach extent n : ℕ) → 1 ≤ extent → reach ≤ 4 * extent
+    → HasPlace kind s near (near + reach) extent n
     → (near / extent ≤ n) × (n < near / extent + 5)
 five_of kind s near reach extent n p small h =
-    five near (h.corner + inset_of kind s) extent n reach p h.from_low h.below_high h.from_near (not_past kind _ (near + reach) h.to_far) small
+    five near (h.corner + inset_of kind s) extent n reach p h.from_low h.below_high h.from_near (not_past kind _
+    (near + reach) h.to_far) small
 
 -- 64 steps are at most four tiles of each height from the step's on
 four_tiles : (k h : ℕ) → k ≤ h → k ≤ 30 → h ≤ 34 → 64 * step k ≤ 4 * (side_of h * step h)
@@ -131,8 +143,10 @@ near head t small r =
     let wide : side_of h * step h ≤ side_of h * (w * step h) = wider w h (width-pos (row_of t.cell.lat)) in
     let some : 1 ≤ side_of h * step h = extent-pos h in
     let a = small.rows in let b = small.cols in
-    let rows = five_of head.kind (step k) (corner_of head).north (box_height head) (side_of h * step h) (row_number t) some (omega arith) both.0 in
-    let columns = five_of head.kind (w * step k) (corner_of head).east (box_width head) (side_of h * (w * step h)) (column_number t) (omega arith) (omega arith) both.1 in
+    let rows = five_of head.kind (step k) (corner_of head).north (box_height head) (side_of h * step h)
+    (row_number t) some (omega arith) both.0 in
+    let columns = five_of head.kind (w * step k) (corner_of head).east (box_width head) (side_of h * (w * step h))
+    (column_number t) (omega arith) (omega arith) both.1 in
     let high = small.high in
     record {
       height_from = r.level;
@@ -193,7 +207,8 @@ code head t =
 code_below : (head : SourceHead) (t : Tile) → IsNear head t → code head t < 1200
 unfolding code
 code_below head t n =
-    let a = n.height_from in let b = n.height_below in let c = n.row_from in let d = n.row_below in let e = n.column_from in let f = n.column_below in
+    let a = n.height_from in let b = n.height_below in let c = n.row_from in let d = n.row_below in let e =
+    n.column_from in let f = n.column_below in
     digits_below _ _ _ _ (digit_below t.family) (omega arith) (omega arith) (omega arith)
 
 less_same : (a b c d : ℕ) → c ≡ d → c ≤ a → d ≤ b → a - c ≡ b - d → a ≡ b
@@ -211,16 +226,22 @@ width_by_row t u eh er =
 code_same : (head : SourceHead) (t u : Tile) → IsNear head t → IsNear head u → code head t ≡ code head u → t ≡ u
 unfolding code
 code_same head t u m n e =
-    let a = m.height_from in let b = m.height_below in let c = m.row_from in let d = m.row_below in let f = m.column_from in let g = m.column_below in
-    let a' = n.height_from in let b' = n.height_below in let c' = n.row_from in let d' = n.row_below in let f' = n.column_from in let g' = n.column_below in
-    let all = digits_same _ _ _ _ _ _ _ _ (omega arith) (omega arith) (omega arith) (omega arith) (omega arith) (omega arith) e in
+    let a = m.height_from in let b = m.height_below in let c = m.row_from in let d = m.row_below in let f =
+    m.column_from in let g = m.column_below in
+    let a' = n.height_from in let b' = n.height_below in let c' = n.row_from in let d' = n.row_below in let f' =
+    n.column_from in let g' = n.column_below in
+    let all = digits_same _ _ _ _ _ _ _ _ (omega arith) (omega arith) (omega arith) (omega arith) (omega arith)
+    (omega arith) e in
     let family : t.family ≡ u.family = family_same t.family u.family all.0 in
-    let height : tile_height t ≡ tile_height u = less_same (tile_height t) (tile_height u) (source_height head) (source_height head) refl a a' all.1 in
+    let height : tile_height t ≡ tile_height u =
+    less_same (tile_height t) (tile_height u) (source_height head) (source_height head) refl a a' all.1 in
     let row : row_number t ≡ row_number u =
-    less_same (row_number t) (row_number u) (first_row head (tile_height t)) (first_row head (tile_height u)) (ap (first_row head) height) c c' all.2 in
+    less_same (row_number t) (row_number u) (first_row head (tile_height t)) (first_row head (tile_height u)) (ap
+    (first_row head) height) c c' all.2 in
     let width : tile_width t ≡ tile_width u = width_by_row t u height row in
     let column : column_number t ≡ column_number u =
-    less_same (column_number t) (column_number u) (first_column head (tile_height t) (tile_width t)) (first_column head (tile_height u) (tile_width u))
+    less_same (column_number t) (column_number u) (first_column head (tile_height t) (tile_width t))
+    (first_column head (tile_height u) (tile_width u))
     (λ i. first_column head (height i) (width i)) f f' all.3 in
     numbered-only t.family (tile_height t) (row_number t) (column_number t) t u (own_number t)
     (record { family_is = sym family; height_is = sym height; row_is = sym row; column_is = sym column })
@@ -236,7 +257,8 @@ reach_most head count small r =
     }) in
     subst (λ n. n ≤ 1200) r.counted le
 
-load_most : (x : ℕ) (ss : List Source) (load : ℕ) → SourcesDrawn x ss → IsLoad (heads_of ss) load → load ≤ 1200 * length ss
+load_most : (x : ℕ) (ss : List Source) (load : ℕ) → SourcesDrawn x ss → IsLoad (heads_of ss) load
+    → load ≤ 1200 * length ss
 load_most x [] load drawn is = let e : load ≡ 0 = is in omega arith
 load_most x (s ∷ ss) load drawn is =
     let one : is.0 ≤ 1200 = reach_most s.head is.0 (small_head x s.head drawn.0.head) is.2.0 in
@@ -254,7 +276,8 @@ pub drawn_fits : DrawnFits
 drawn_fits = record {
   some = λ x ss d. some_count (drawn 1 x) (length ss) d.count;
   few = λ x ss d. few_count (drawn 1 x) (length ss) d.count;
-  load = λ x ss load d is. three (length ss) load (few_count (drawn 1 x) (length ss) d.count) (load_most _ ss load d.each is);
+  load = λ x ss load d is. three (length ss) load (few_count (drawn 1 x) (length ss) d.count)
+      (load_most _ ss load d.each is);
 }
   where
     three : (n load : ℕ) → n ≤ 3 → load ≤ 1200 * n → load ≤ 3600

@@ -19,15 +19,19 @@ same_sum a b n e f = omega (arith, ints, e, f)
 
 one_head : (x : ℕ) (a b : SourceHead) → HeadDrawn x a → HeadDrawn x b → a ≡ b
 one_head x a b d e =
-    let level : a.level.number ≡ b.level.number = same_sum a.level.number b.level.number (drawn 2 x % 8) d.level e.level in
-    let wide : pos (step (height_of a.level.number)) ≡ pos (step (height_of b.level.number)) = ap (λ l. pos (step (height_of l))) level in
-    same_head a b (d.kind ∙ sym e.kind) level (d.lat ∙ sym e.lat) (d.lon ∙ sym e.lon) (d.dlat ∙ wide ∙ sym e.dlat) (d.dlon ∙ wide ∙ sym e.dlon)
+    let level : a.level.number ≡ b.level.number =
+    same_sum a.level.number b.level.number (drawn 2 x % 8) d.level e.level in
+    let wide : pos (step (height_of a.level.number)) ≡ pos (step (height_of b.level.number)) =
+    ap (λ l. pos (step (height_of l))) level in
+    same_head a b (d.kind ∙ sym e.kind) level (d.lat ∙ sym e.lat) (d.lon ∙ sym e.lon) (d.dlat ∙ wide
+    ∙ sym e.dlat) (d.dlon ∙ wide ∙ sym e.dlon)
     (d.rows ∙ sym e.rows) (d.cols ∙ sym e.cols)
 
 one_source : (x : ℕ) (a b : Source) → SourceDrawn x a → SourceDrawn x b → a ≡ b
 one_source x a b d e =
     let head : a.head ≡ b.head = one_head x a.head b.head d.head e.head in
-    same_source a b head (d.posts ∙ ap (λ (h : SourceHead). posts_drawn h.kind (drawn 7 x) h.rows h.cols) head ∙ sym e.posts)
+    same_source a b head (d.posts ∙ ap (λ (h : SourceHead). posts_drawn h.kind (drawn 7 x) h.rows h.cols) head
+    ∙ sym e.posts)
 
 one_list : (x : ℕ) (a b : List Source) → length a ≡ length b → SourcesDrawn x a → SourcesDrawn x b → a ≡ b
 one_list x [] [] same d e = refl
@@ -60,10 +64,12 @@ one_sum earlier (p ∷ list) m n a b =
     a.2.2 ∙ (λ i. tiles_sum (sources_of (earlier ++ p ∷ [])) (tiles i) +ℤ rest i) ∙ sym b.2.2
 
 one_text : (from : List Publication) (start count : ℕ) (a b : List Publication) (wrote wrote' : Text)
-    → length a ≡ count → length b ≡ count → AreDrawn start a → AreDrawn start b → Tells from a count wrote → Tells from b count wrote' → wrote ≡ wrote'
+    → length a ≡ count → length b ≡ count → AreDrawn start a → AreDrawn start b → Tells from a count wrote
+    → Tells from b count wrote' → wrote ≡ wrote'
 one_text from start count a b wrote wrote' m n d e s t =
     let list : a ≡ b = one_drawn start a b (m ∙ sym n) d e in
-    let files : s.files ≡ t.files = one_entries b s.files t.files (subst (λ l. IsEntryCount l s.files) list s.files_are) t.files_are in
+    let files : s.files ≡ t.files =
+    one_entries b s.files t.files (subst (λ l. IsEntryCount l s.files) list s.files_are) t.files_are in
     let sum : s.sum ≡ t.sum = one_sum from b s.sum t.sum (subst (λ l. IsSum from l s.sum) list s.sum_is) t.sum_is in
     s.lines ∙ (λ i. summary_text (length from + count) (files i) (sum i)) ∙ sym t.lines
 

@@ -48,7 +48,8 @@ pub record Summary (from made : List Publication) (count : ℕ) (Left : FileMap 
   pub tells : Tells from made count wrote
 
 -- between two publications: so many are made and complete, with their files and their sum
-pub record Sofar (from : List Publication) (start state done files : ℕ) (sum : ℤ) (list : List Publication) : Type 0 where
+pub record Sofar (from : List Publication) (start state done files : ℕ) (sum : ℤ)
+    (list : List Publication) : Type 0 where
   pub made : List Publication
   pub list_is : list ≡ from ++ made
   pub counted : length made ≡ done

@@ -33,7 +33,8 @@ numbers_sum kind numbers = sum_of (map (λ number. number_value kind number) num
 
 -- where the numbers are those of the frame of a tile of the kind, the sum is the tile's
 abbrev pub SumsTiles : Kind → List ℤ → ℤ → Type 0
-SumsTiles kind numbers sum = (ss : List Source) (t : Tile) → kind ≡ kind_of t.family → IsFrameOf ss t numbers → sum ≡ tile_sum ss t
+SumsTiles kind numbers sum = (ss : List Source) (t : Tile) → kind ≡ kind_of t.family → IsFrameOf ss t numbers
+    → sum ≡ tile_sum ss t
 
 -- ---- tiles
 

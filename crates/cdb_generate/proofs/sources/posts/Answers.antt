@@ -7,11 +7,15 @@ use Rattle.cdb_generate.proofs.sources.posts.Goals as goal
 pub loop-col-preserved : goal.loop-col-preserved
 loop-col-preserved c =
     let fits : SFits w16 c.post.result = search rules in
-    c.in_ok-push.ensures.items ∙ more_cols c.args.kind c.args.base c.loop-col.col c.loop-row.row (posts_drawn c.args.kind c.args.base c.loop-row.row c.args.cols) c.loop-col.posts.items _
+    c.in_ok-push.ensures.items
+    ∙ more_cols c.args.kind c.args.base c.loop-col.col c.loop-row.row
+    (posts_drawn c.args.kind c.args.base c.loop-row.row c.args.cols) c.loop-col.posts.items _
     c.loop-col.invariant (to_z-of_z w16 c.post.result fits ∙ c.post.ensures)
 
 pub loop-row-preserved : goal.loop-row-preserved
 loop-row-preserved c =
     let whole : c.loop-col.col ≡ c.args.cols = omega (arith, c.loop-col-test.false, c.loop-col.auto.col-end) in
-    c.loop-col.invariant ∙ ap (λ n. posts_drawn c.args.kind c.args.base c.loop-row.row c.args.cols ++ row_drawn c.args.kind c.args.base n c.loop-row.row) whole
+    c.loop-col.invariant ∙ ap
+    (λ n. posts_drawn c.args.kind c.args.base c.loop-row.row c.args.cols ++ row_drawn c.args.kind c.args.base n
+    c.loop-row.row) whole
     ∙ more_rows c.args.kind c.args.base c.loop-row.row c.args.cols
