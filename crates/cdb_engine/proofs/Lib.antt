@@ -11,3 +11,4 @@ pub mod TileTracks
 pub mod OpenTracks
 pub mod SessionTracks
 pub mod StepThen
+pub mod CheckLaws

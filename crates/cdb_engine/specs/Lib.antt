@@ -1,3 +1,4 @@
+pub mod Checks
 pub mod Held
 pub mod Loading
 pub mod Stays

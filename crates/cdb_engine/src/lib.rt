@@ -3,6 +3,7 @@
 #![tactic(auto)]
 
 mod begin;
+mod check;
 mod engine;
 mod errors;
 mod file;
@@ -17,6 +18,7 @@ mod settle;
 mod source_file;
 
 pub use cdb_chain::OpenError;
+pub use cdb_check::{Agreed, CheckError};
 pub use cdb_model::{InlineWords as InlineOrder, LoadWords as LoadOrder};
 pub use cdb_publish::Progress;
 pub use cdb_sessions::{Reply, SessionError, TileError, Unknown};

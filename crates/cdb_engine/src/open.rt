@@ -7,6 +7,7 @@ ghost use Rattle.cdb_model.specs.KnownStore.{start_at};
 ghost use Rattle.cdb_model.specs.Stores.{any_store};
 ghost use Rattle.cdb_model.specs.Transitions.{IsFreshIn};
 ghost use Rattle.cdb_files.specs.Moments.{AddsOnly};
+ghost use Rattle.cdb_engine.specs.Checks.{AreOpened};
 ghost use Rattle.cdb_engine.specs.Stays.{bare_of};
 ghost use Rattle.cdb_engine.specs.Store.{IsStore, IsFound, TellsNoStore, open_error_of};
 ghost use Rattle.cdb_engine.specs.Tracks.{Tracks};
@@ -38,6 +39,8 @@ impl Engine {
             → IsStore list early (D.state disk.old)
             → IfOk result (λ engine. Tracks engine (D.state disk.new) (start_at list)) }
         ensures fresh { IfOk result (λ engine. IsFreshIn any_store (bare_of engine)) }
+        ensures read { D.tells → IfOk result (λ engine.
+            AreOpened (D.state disk.old).present (D.state disk.new).present engine.chain.records) }
         ensures nothing_kept { IfOk result (λ engine. engine.kept ≡ []) }
         ensures no_reply { IfOk result (λ engine. engine.reply ≡ []) }
         ensures moments { D.tells → (list : List (List given.Source)) (early : List (List (List given.Source)))
