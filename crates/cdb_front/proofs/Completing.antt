@@ -10,7 +10,7 @@ use Rattle.cdb_front.specs.Headline.{Devices}
 use Rattle.cdb_front.specs.RunOutcome.{EndsWith, is_whole, is_part, IsOfStore}
 use Rattle.cdb_front.specs.RunProgress.{Holds}
 use Rattle.cdb_front.specs.declared.exit_status.Status.{Status}
-use Rattle.cdb_front.specs.declared.exit_status.Status.TheVariants.{Done, Memory, Usage, InputFault, OutputFault, StoreFault, NotAStore, TooLong}
+use Rattle.cdb_front.specs.declared.exit_status.Status.TheVariants.{Done, Memory, Usage, InputFault, OutputFault, StoreFault, NotAStore, TooLong, Differs}
 
 no_rise : (before now : ℕ) → Still before now → Rose before now → ⊥
 no_rise before now s rose = let e = s.0 in let l = s.1 in omega (arith, e, l, rose)
@@ -54,3 +54,4 @@ completes v input_faults output_faults life base goes u =
     by OutputFault is = absurd (no_rise (output_faults life.output) (output_faults life.output') u.output
         (u.output_failed is))
     by (NotAStore version place) is = absurd (subst IsOfStore is of_store)
+    by (Differs path) is = absurd (subst IsOfStore is of_store)

@@ -19,10 +19,10 @@ use Rattle.cdb_files.specs.Disk.{IsImage}
 use Rattle.cdb_engine.specs.Store.{IsStore}
 use Rattle.cdb_front.specs.Continued.{Succeeds, stopped, unstopped, base_for, acked_at, acked_by, IsOneOf, MayLeave, Succession, HasAcked, Carried, Continues}
 use Rattle.cdb_front.specs.Headline.{Devices, Life, Goes, Meets, Reopens, Stops, amid, at_end}
-use Rattle.cdb_front.specs.RunOutcome.{Hears, WasOpened, IsClosed, IsAtRest, RestsAt, StandsAtExit}
+use Rattle.cdb_front.specs.RunOutcome.{Hears, IsOfStore, WasOpened, IsClosed, IsAtRest, RestsAt, StandsAtExit}
 use Rattle.cdb_front.specs.RunProgress.{Holds}
 use Rattle.cdb_front.specs.declared.exit_status.Status.{Status}
-use Rattle.cdb_front.specs.declared.exit_status.Status.TheVariants.{Done, Memory, Usage, InputFault, OutputFault, StoreFault, NotAStore, TooLong}
+use Rattle.cdb_front.specs.declared.exit_status.Status.TheVariants.{Done, Memory, Usage, InputFault, OutputFault, StoreFault, NotAStore, TooLong, Differs}
 use Rattle.cdb_front.proofs.Exits.{IsAcknowledged, kept_first, take-none}
 use Rattle.cdb_front.proofs.Many.{only_whole}
 
@@ -74,15 +74,16 @@ holds_before base begun kept list x (inr e) all = each_of (λ l. Contains l x) b
 
 -- ---- a run that ended in opening
 
-opened_or_closed : (status : Status) → WasOpened status ⊎ IsClosed status
-opened_or_closed Done = inl tt
-opened_or_closed Memory = inr tt
-opened_or_closed Usage = inr tt
-opened_or_closed InputFault = inl tt
-opened_or_closed OutputFault = inl tt
-opened_or_closed StoreFault = inr tt
-opened_or_closed (NotAStore version place) = inr tt
-opened_or_closed TooLong = inl tt
+opened_or_closed : (status : Status) → IsOfStore status → WasOpened status ⊎ IsClosed status
+opened_or_closed Done o = inl tt
+opened_or_closed Memory o = inr tt
+opened_or_closed Usage o = inr tt
+opened_or_closed InputFault o = inl tt
+opened_or_closed OutputFault o = inl tt
+opened_or_closed StoreFault o = inr tt
+opened_or_closed (NotAStore version place) o = absurd o
+opened_or_closed TooLong o = inl tt
+opened_or_closed (Differs path) o = absurd o
 
 heard_nothing : (status : Status) (lines heard : List Text) (rest : Text) → IsClosed status
     → Hears status lines rest heard → heard ≡ []
@@ -94,6 +95,7 @@ heard_nothing OutputFault lines heard rest c h = absurd c
 heard_nothing StoreFault lines heard rest c h = h
 heard_nothing (NotAStore version place) lines heard rest c h = h
 heard_nothing TooLong lines heard rest c h = absurd c
+heard_nothing (Differs path) lines heard rest c h = absurd c
 
 no_items : (items unmade : List Item) → [] ≡ items ++ unmade → items ≡ []
 no_items [] unmade e = refl
@@ -204,6 +206,7 @@ module _ (v : Devices) (life : Life v) (base : Base) (goes : Goes v life (Some b
   exit_left InputFault keep m none s = extended goes.run.begun keep base m s
   exit_left OutputFault keep m none s = extended goes.run.begun keep base m s
   exit_left TooLong keep m none s = extended goes.run.begun keep base m s
+  exit_left (Differs path) keep m none s = extended goes.run.begun keep base m s
   exit_left Memory keep m none (inl s) = extended goes.run.begun keep base m s
   exit_left Memory keep m none (inr s) = let r = one_of base.early m s in (r.0, inr (none tt, r.1), r.2)
   exit_left Usage keep m none (inl s) = extended goes.run.begun keep base m s
@@ -264,6 +267,7 @@ module _ (v : Devices) (life : Life v) (base : Base) (goes : Goes v life (Some b
   rested StoreFault s d o r = absurd o
   rested (NotAStore version place) s d o r = absurd o
   rested TooLong s d o r = r
+  rested (Differs path) s d o r = absurd o
 
   first : IsAcknowledged goes.run.has_begun.complete kept
   first = kept_first (Holds v.shelf_tells (v.files life.shelf)) base.list goes.run.state goes.transcript.items
@@ -361,6 +365,7 @@ module _ (v : Devices) (life : Life v) (base : Base) (goes : Goes v life (Some b
       by StoreFault c k = of k
       by (NotAStore version place) c k = of k
       by TooLong c k = absurd c
+      by (Differs path) c k = absurd c
 
   leaves_opened : kept ≡ [] → MayLeave base goes.run.begun kept base.list
   leaves_opened none = inl record {
@@ -391,7 +396,7 @@ module _ (v : Devices) (life : Life v) (base : Base) (goes : Goes v life (Some b
 
   stay_found : IsStore base.list base.early (v.state life.old) → IsClear (v.state life.new)
       → IsImage (v.state life.new) (v.state life.new).present → Found kept (v.state life.new)
-  stay_found entry clear image = by (opened_or_closed goes.status)
+  stay_found entry clear image = by (opened_or_closed goes.status goes.run.of_store)
     where
       by : WasOpened goes.status ⊎ IsClosed goes.status → Found kept (v.state life.new)
       by (inl o) = opened_found (v.state life.new) goes.run.state.halted refl

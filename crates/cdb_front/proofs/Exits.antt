@@ -25,7 +25,7 @@ use Rattle.cdb_front.specs.Followed.{Sight, IsLeftBy, IsFollowed, IsBegun}
 use Rattle.cdb_front.specs.RunOutcome.{EndsFrom, EndsWith, Stops, Outcome, WasOpened, IsClosed, IsOfStore, StandsAtExit, IsAtRest, RestsAt}
 use Rattle.cdb_front.specs.RunProgress.{Entry, Holds, Runs, Ordered, Told, base_of}
 use Rattle.cdb_front.specs.declared.exit_status.Status.{Status}
-use Rattle.cdb_front.specs.declared.exit_status.Status.TheVariants.{Done, Memory, Usage, InputFault, OutputFault, StoreFault, NotAStore, TooLong}
+use Rattle.cdb_front.specs.declared.exit_status.Status.TheVariants.{Done, Memory, Usage, InputFault, OutputFault, StoreFault, NotAStore, TooLong, Differs}
 
 -- ---- what is acknowledged
 
@@ -102,6 +102,7 @@ at_exit OutputFault base begun kept m s = s
 at_exit StoreFault base begun kept m s = inl s
 at_exit (NotAStore version place) base begun kept m s = inl s
 at_exit TooLong base begun kept m s = s
+at_exit (Differs path) base begun kept m s = s
 
 -- the disk that is left
 none_of : (going : Option Going) → ((now : Going) → going ≡ Some now → ⊥) → going ≡ None
@@ -124,6 +125,7 @@ rests_at OutputFault s d r = r
 rests_at StoreFault s d r = tt
 rests_at (NotAStore version place) s d r = tt
 rests_at TooLong s d r = r
+rests_at (Differs path) s d r = tt
 
 opened_store : (status : Status) → WasOpened status → IsOfStore status
 opened_store Done o = tt
@@ -134,6 +136,7 @@ opened_store OutputFault o = tt
 opened_store StoreFault o = absurd o
 opened_store (NotAStore version place) o = absurd o
 opened_store TooLong o = tt
+opened_store (Differs path) o = absurd o
 
 -- a run that is followed has ended
 pub ended : (Has : Text → Content → Type 0) (tells : Type 0) (from : Option Base) (status : Status) (items : List Item)
@@ -198,7 +201,7 @@ opens tells moment entry (Some base) Now knows begins = begins base knows
 -- ---- no store was opened
 
 -- what a crash leaves of a store stands for its list, or for one of the early ones
-of_entry : (list : List Publication) (early : List (List Publication)) (d : disk.State) (m : FileMap)
+pub of_entry : (list : List Publication) (early : List (List Publication)) (d : disk.State) (m : FileMap)
     → IsStore list early d → IsImage d m → StandsForOne (list ∷ early) m
 of_entry list [] d m store image = inl (store.stands m image)
 of_entry list (other ∷ []) d m store image = by store.next (store.faulted.either m image)
@@ -276,6 +279,7 @@ rests_shut OutputFault s d c = absurd c
 rests_shut StoreFault s d c = tt
 rests_shut (NotAStore version place) s d c = tt
 rests_shut TooLong s d c = absurd c
+rests_shut (Differs path) s d c = absurd c
 
 exit_shut : (status : Status) (base : Base) (kept : List Publication) (m : FileMap) → IsClosed status
     → StandsKept base.list [] kept m ⊎ StandsForOne base.early m
@@ -288,6 +292,7 @@ exit_shut OutputFault base kept m c s = absurd c
 exit_shut StoreFault base kept m c s = s
 exit_shut (NotAStore version place) base kept m c s = s
 exit_shut TooLong base kept m c s = absurd c
+exit_shut (Differs path) base kept m c s = absurd c
 
 -- the run ended in opening: every image stands for the list, or for one of the early ones
 pub closed : {D : Type 0} (tells : Type 0) (Has : Text → Content → Type 0) (clock : D → ℕ)

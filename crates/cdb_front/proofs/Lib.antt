@@ -10,5 +10,6 @@ pub mod Giving
 pub mod Many
 pub mod Continuing
 pub mod Completing
+pub mod Checking
 pub mod Serving
 pub mod InTime

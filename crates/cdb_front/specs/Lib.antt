@@ -14,6 +14,7 @@ pub mod RunReading
 pub mod Failures
 pub mod Headline
 pub mod Completeness
+pub mod Checking
 pub mod Served
 pub mod Continued
 pub mod WordedRuns

@@ -28,7 +28,7 @@ use Rattle.cdb_front.specs.RunProgress.{Entry, Holds, Runs, Ordered}
 use Rattle.cdb_front.specs.StatusCodes.{status_line}
 use Rattle.cdb_front.specs.Stepping.{Counts}
 use Rattle.cdb_front.specs.declared.exit_status.Status.{Status}
-use Rattle.cdb_front.specs.declared.exit_status.Status.TheVariants.{Done, Memory, Usage, InputFault, OutputFault, StoreFault, NotAStore, TooLong}
+use Rattle.cdb_front.specs.declared.exit_status.Status.TheVariants.{Done, Memory, Usage, InputFault, OutputFault, StoreFault, NotAStore, TooLong, Differs}
 
 -- ---- what was read, what was answered to it, and what was written
 
@@ -68,7 +68,7 @@ IsLineEnd left unread = ((unread ≡ []) × IsAtEnd left) ⊎ ((after : Text) ×
 
 -- why the script ended: the end of the input after fewer than 2 ^ 32 bytes, or the line `quit`, whose line feed is at
 -- most the last of 2 ^ 32; an answer to a whole line that wasn't written whole; a failed read; 2 ^ 32 bytes; nothing
--- was read
+-- was read. A script looks at no file of the store, so it says of none that it differs
 abbrev pub Finishes : Status → Option (List ℕ) → Text → Text → Text → Type 0
 Finishes Done left read unread rest =
     (length read < 2 ^ 32) × (((unread ≡ []) × IsAtEnd left)
@@ -76,6 +76,7 @@ Finishes Done left read unread rest =
 Finishes OutputFault left read unread rest = (length read < 2 ^ 32) × IsLineEnd left unread
 Finishes InputFault left read unread rest = (unread ≡ []) × (length read < 2 ^ 32)
 Finishes TooLong left read unread rest = (unread ≡ []) × (length read ≡ 2 ^ 32)
+Finishes (Differs path) left read unread rest = ⊥
 Finishes status left read unread rest = (unread ≡ []) × (read ≡ [])
 
 -- what was read of the input, what was answered to it, and what was written of that, before the line of the status
@@ -126,9 +127,10 @@ pub data EndsWith (status : Status) (old new : Option (List ℕ)) : Status → T
 
 -- ---- the disk at the end
 
--- a disk with a store is none that isn't one
+-- a disk with a store is none that isn't one, and none of its files differs
 abbrev pub IsOfStore : Status → Type 0
 IsOfStore (NotAStore version place) = ⊥
+IsOfStore (Differs path) = ⊥
 IsOfStore status = Unit {0}
 
 -- the store was opened
@@ -160,6 +162,7 @@ StandsAtExit Done base begun kept m = StandsKept base.list begun kept m
 StandsAtExit InputFault base begun kept m = StandsKept base.list begun kept m
 StandsAtExit OutputFault base begun kept m = StandsKept base.list begun kept m
 StandsAtExit TooLong base begun kept m = StandsKept base.list begun kept m
+StandsAtExit (Differs path) base begun kept m = StandsKept base.list begun kept m
 StandsAtExit status base begun kept m = StandsKept base.list begun kept m ⊎ StandsForOne base.early m
 
 -- what a run finds that begins on the same disk without a stop: a whole one, or one that a fault left, where it is

@@ -1,4 +1,5 @@
-ghost use Rattle.std.specs.Prelude.{◌≡◌, ◌≢◌, ◌≤◌};
+ghost use Rattle.std.specs.Prelude.{◌≡◌, ◌≢◌, ◌≤◌, ◌++◌, length};
+ghost use Rattle.cdb_model.specs.Text.{ended};
 ghost use Rattle.cdb_model.specs.Causes.{Rose};
 ghost use Rattle.cdb_front.specs.Failures.{WritesOnce};
 ghost use Rattle.cdb_front.specs.RunOutcome.{EndsWith};
@@ -9,19 +10,44 @@ use crate::exit_status::Status;
 use crate::output::Output;
 use crate::write::write_all;
 use arrayvec::ArrayString;
+use cdb_files::Path;
+
+/// A line as one with room for a path.
+fn widened(line: ArrayString<64>) -> ArrayString<160>
+    ensures { result.bytes ≡ line.bytes }
+{
+    let mut wide = ArrayString::new();
+    wide.push_str(line.as_str());
+    wide
+}
+
+/// A line with a path.
+fn path_line(name: &str, path: &Path) -> ArrayString<160>
+    requires { length name.now ≤ 20 }
+    ensures { result.bytes ≡ ended (name.now ++ path.now.bytes) }
+{
+    let mut text = ArrayString::new();
+    text.push_str(name);
+    text.push_str(path.as_str());
+    text.push('\n');
+    text
+}
 
 /// The line that is written before a run ends so.
-fn line_of(status: Status) -> ArrayString<64>
-    ensures { result.bytes ≡ status_line status }
+fn line_of(status: &Status) -> ArrayString<160>
+    ensures { result.bytes ≡ status_line status.now }
 {
     match status {
         Status::Done | Status::OutputFault => ArrayString::new(),
-        Status::Memory => line(word("cdb: out of memory")),
-        Status::Usage => line(word("cdb: usage")),
-        Status::InputFault => line(word("cdb: input fault")),
-        Status::StoreFault => line(word("cdb: store fault")),
-        Status::NotAStore { version, place } => line_with_two("cdb: not a store", version, place),
-        Status::TooLong => line(word("cdb: input too long")),
+        Status::Memory => widened(line(word("cdb: out of memory"))),
+        Status::Usage => widened(line(word("cdb: usage"))),
+        Status::InputFault => widened(line(word("cdb: input fault"))),
+        Status::StoreFault => widened(line(word("cdb: store fault"))),
+        Status::NotAStore { version, place } => {
+            widened(line_with_two("cdb: not a store", *version, *place))
+        }
+        Status::TooLong => widened(line(word("cdb: input too long"))),
+        Status::Differs { path } => path_line("cdb: differs ", path),
     }
 }
 
@@ -35,7 +61,7 @@ pub fn end<O: Output>(output: &mut O, status: Status) -> Status
     ensures failed { result ≡ Status.OutputFault → status ≢ Status.OutputFault
         → Rose (O.fault_count output.old) (O.fault_count output.new) }
 {
-    let line = line_of(status);
+    let line = line_of(&status);
     match write_all(output, line.as_str().as_bytes()) {
         Ok(()) => status,
         Err(_) => Status::OutputFault,

@@ -1,12 +1,15 @@
 ghost use Rattle.std.specs.Prelude.{◌≡◌};
 ghost use Rattle.cdb_front.specs.StatusCodes.{code_of};
 
+use cdb_files::Path;
+
 /// How a run ended.
 #[derive(Clone, Copy, Debug, PartialEq, Eq)]
 pub enum Status {
-    /// The input was read to its end or to `quit`, and every answer was written.
+    /// The input was read to its end or to `quit`, and every answer was written; or all files of the store
+    /// agree, and that was written.
     Done,
-    /// Memory was refused before the first line was read.
+    /// Memory was refused before the first line was read, or before all files were looked at.
     Memory,
     /// The words aren't options of the program.
     Usage,
@@ -14,13 +17,15 @@ pub enum Status {
     InputFault,
     /// A write to the output failed.
     OutputFault,
-    /// A call of the store's disk failed while the store was opened.
+    /// A call of the store's disk failed while the store was opened or its files were looked at.
     StoreFault,
     /// What the disk holds is no store: `place` is the byte from 0 of the record of `version`, or of
     /// the file that names the newest version, at which its first wrong field begins.
     NotAStore { version: u32, place: u32 },
     /// `2^32` bytes were taken, and no end and no `quit` was among them.
     TooLong,
+    /// A file of the store isn't what its records and source files give: the one at `path` is the first.
+    Differs { path: Path },
 }
 
 impl Status {
@@ -37,6 +42,7 @@ impl Status {
             Status::StoreFault => 5,
             Status::NotAStore { .. } => 6,
             Status::TooLong => 7,
+            Status::Differs { .. } => 8,
         }
     }
 }

@@ -3,6 +3,7 @@
 
 mod answer_text;
 mod answers;
+mod checked_run;
 mod end_run;
 mod engine_calls;
 mod engine_lines;
@@ -35,5 +36,5 @@ pub use input::Input;
 pub use mem_input::MemInput;
 pub use mem_output::MemOutput;
 pub use output::Output;
-pub use run_laws::{completeness, continues, headline, serves_tiles};
+pub use run_laws::{check_completeness, completeness, continues, headline, serves_tiles};
 pub use worded_run::cdb_run;

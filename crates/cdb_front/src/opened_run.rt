@@ -14,7 +14,7 @@ use cdb_files::{Disk, Shelf};
 use std::alloc::Global;
 
 /// How a run ends that couldn't open its store.
-fn unopened(error: OpenError) -> Status
+pub fn unopened(error: OpenError) -> Status
     ensures status { result ≡ status_of error }
     ensures closed { IsClosed result }
     ensures fault { result ≡ Status.StoreFault → error ≡ OpenError.Fault }

@@ -1,4 +1,5 @@
 //! What the runs of the program promise together. Each function does nothing; its contract is the law.
+ghost use Rattle.cdb_front.specs.Checking.{CompletesCheckOf};
 ghost use Rattle.cdb_front.specs.Completeness.{CompletesOf};
 ghost use Rattle.cdb_front.specs.Continued.{ContinuesOf};
 ghost use Rattle.cdb_front.specs.Headline.{HeadlineOf};
@@ -24,6 +25,11 @@ pub fn completeness<D: Disk, H: Shelf, I: Input, O: Output>(
 )
     ensures { CompletesOf D.tells D.state D.clock D.since D.fault_count H.tells H.files H.fault_count I.left
         I.fault_count O.written O.fault_count }
+{}
+
+/// Where no device fails, a run of mode check over a store is done, or wants memory.
+pub fn check_completeness<D: Disk, O: Output>(disk: &D, output: &O)
+    ensures { CompletesCheckOf D.tells D.state D.clock D.since D.fault_count O.written O.fault_count }
 {}
 
 /// Any number of runs, each over what a stop of the one before left or, where the disk is clear, on

@@ -1,13 +1,15 @@
 ghost use Rattle.std.specs.Prelude.{◌≡◌, ◌≢◌, ◌+◌, ◌⊎◌, ◌≤◌, Some, map};
 ghost use Rattle.cdb_commands.specs.Options.{options_of};
-ghost use Rattle.cdb_commands.specs.declared.options.Mode.TheVariants.{Run};
+ghost use Rattle.cdb_commands.specs.declared.options.Mode.TheVariants.{Run, Check};
 ghost use Rattle.cdb_commands.specs.declared.options.Options.{Options as given};
 ghost use Rattle.cdb_model.specs.Causes.{Rose};
+ghost use Rattle.cdb_front.specs.Checking.{Checks};
 ghost use Rattle.cdb_front.specs.Failures.{WritesOnce};
 ghost use Rattle.cdb_front.specs.Headline.{MeetsOf};
 ghost use Rattle.cdb_front.specs.RunOutcome.{SaysNoStore};
 ghost use Rattle.cdb_front.specs.WordedRuns.{IsNoRun};
 
+use crate::checked_run::check_over;
 use crate::end_run::end;
 use crate::exit_status::Status;
 use crate::input::Input;
@@ -18,9 +20,13 @@ use cdb_files::{Disk, Shelf};
 use std::alloc::Global;
 
 /// Runs the program with these words, which don't hold its own name. `Usage` where they aren't options
-/// of the program, or ask for another mode than `run`, which aren't built; nothing is opened then.
+/// of the program, or ask for mode `generate`, which isn't built; nothing is opened then.
 ///
-/// Else it opens the store on `disk`, reads a script from `input` line by line, and writes the answer
+/// In mode `check` it opens the store on `disk`, looks at each file that its records expect, and writes
+/// `agrees` and how many versions and files there are, or ends with `Differs` and the path of the first
+/// file that isn't as the records and source files give it. Then no input is read and no shelf.
+///
+/// In mode `run` it opens the store on `disk`, reads a script from `input` line by line, and writes the answer
 /// to each line to `output` before it reads the next. As many steps of a publication that is going as
 /// the words say follow each line that asks for none. Sources whose posts a file holds are read from
 /// `shelf`.
@@ -41,6 +47,11 @@ pub fn cdb_run<D: Disk, H: Shelf, I: Input, O: Output>(
         → MeetsOf D.tells D.state D.clock D.since D.fault_count H.tells H.files H.fault_count I.left O.written
         disk.old disk.new shelf.old shelf.new input.old input.new output.old output.new options.background
         result }
+    ensures checks { (options : given) → options_of (map (λ s. s.now) words.now) ≡ Some options → options.mode ≡ Check
+        → Checks D.tells D.state D.clock D.since disk.old disk.new (O.written output.old) (O.written output.new)
+        result }
+    ensures untouched { (options : given) → options_of (map (λ s. s.now) words.now) ≡ Some options
+        → options.mode ≡ Check → (input.new ≡ input.old) × (shelf.new ≡ shelf.old) }
     ensures usage { result ≡ Status.Usage → IsNoRun (options_of (map (λ s. s.now) words.now)) }
     ensures refused { IsNoRun (options_of (map (λ s. s.now) words.now))
         → (result ≡ Status.Usage) ⊎ ((result ≡ Status.Memory) ⊎ (result ≡ Status.OutputFault)) }
@@ -61,15 +72,16 @@ pub fn cdb_run<D: Disk, H: Shelf, I: Input, O: Output>(
         Err(WordsError::Memory) => return end(output, Status::Memory),
         Err(WordsError::Usage) => return end(output, Status::Usage),
     };
-    if options.mode != Mode::Run {
-        return end(output, Status::Usage);
+    match options.mode {
+        Mode::Run => run_over(
+            alloc,
+            u32::from(options.background),
+            disk,
+            shelf,
+            input,
+            output,
+        ),
+        Mode::Check => check_over(alloc, disk, output),
+        Mode::Generate => end(output, Status::Usage),
     }
-    run_over(
-        alloc,
-        u32::from(options.background),
-        disk,
-        shelf,
-        input,
-        output,
-    )
 }

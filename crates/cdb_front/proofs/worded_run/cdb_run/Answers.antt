@@ -1,6 +1,7 @@
 use Rattle.std.proofs.Common.{◌≤◌, arith}
 use Rattle.cdb_front.specs.RunProgress.{Entry, Holds}
 use Rattle.cdb_front.specs.declared.exit_status.Status.TheVariants.{Memory}
+use Rattle.cdb_front.proofs.Checking.{checks_nothing}
 use Rattle.cdb_front.proofs.Exits.{unopened, told_shut, outcome, Shut}
 use Rattle.cdb_front.proofs.RunEnds.{stops_closed}
 use Rattle.cdb_front.proofs.worded_run.cdb_run.Goals as goal
@@ -26,3 +27,9 @@ returns-in-Err-Memory-clause-outcome g c = λ options is mode from knows.
     (g.H.Shelf.fault_count c.args.shelf.now) (g.D.Disk.fault_count c.args.disk.now) (Shut from) tt
     (told_shut e (g.D.Disk.fault_count c.args.disk.now) same))
     c.end.ensures.ends
+
+pub returns-in-Err-Memory-clause-checks : goal.returns-in-Err-Memory-clause-checks
+returns-in-Err-Memory-clause-checks g c = λ options is mode.
+    checks_nothing g.D.Disk.tells g.D.Disk.state g.D.Disk.clock g.D.Disk.since c.args.disk.now
+    (g.O.Output.written c.args.output.now) (g.O.Output.written c.end.new.output)
+    (g.met.D.Disk.only_now c.args.disk.now) c.end.result c.end.ensures.ends

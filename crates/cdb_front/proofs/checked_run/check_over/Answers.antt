@@ -1,0 +1,47 @@
+use Rattle.cdb_front.proofs.Checking.{checks_unopened, checks_refused, checks_agreed, checks_torn}
+use Rattle.cdb_front.proofs.RunEnds.{says_no_store, unopened_says}
+use Rattle.cdb_front.proofs.checked_run.check_over.Goals as goal
+
+pub returns-in-Err-clause-checks : goal.returns-in-Err-clause-checks
+returns-in-Err-clause-checks g c =
+    checks_unopened g.D.Disk.tells g.D.Disk.state g.D.Disk.clock g.D.Disk.since
+    c.args.disk.now (g.met.D.Disk.only_now c.args.disk.now) c.open.new.disk c.open.ensures.moments
+    (g.O.Output.written c.args.output.now)
+    (g.O.Output.written c.end.new.output) c.in-Err.error c.unopened.result c.end.result c.unopened.ensures.status
+    c.in-Err.ensures.store c.end.ensures.ends
+
+pub returns-in-Err-clause-no_store : goal.returns-in-Err-clause-no_store
+returns-in-Err-clause-no_store g c =
+    says_no_store g.D.Disk.tells (g.D.Disk.state c.args.disk.now).present c.unopened.result c.end.result
+    c.end.ensures.same
+    (unopened_says Unit g.D.Disk.tells (g.D.Disk.state c.args.disk.now).present c.in-Err.error c.unopened.result
+    c.unopened.ensures.status c.in-Err.ensures.no_store)
+
+pub returns-in-Ok-say_agreed-clause-checks : goal.returns-in-Ok-say_agreed-clause-checks
+returns-in-Ok-say_agreed-clause-checks g c =
+    checks_agreed g.D.Disk.tells g.D.Disk.state g.D.Disk.clock g.D.Disk.since
+    c.args.disk.now (g.met.D.Disk.only_now c.args.disk.now) c.open.new.disk c.open.ensures.moments
+    (g.O.Output.written c.args.output.now)
+    (g.O.Output.written c.say_agreed.new.output) c.in-Ok.engine c.check.new.disk
+    g.D.Disk.fault_count c.in-Ok.ensures.read c.in-Ok.ensures.begins c.check.ensures.looks
+    c.in-Ok-check.agreed c.in-Ok-say_agreed.ensures.ok c.in-Ok-check.ensures.finds c.in-Ok-check.ensures.told
+    c.in-Ok-check.ensures.agrees
+
+pub returns-in-Ok-check-clause-checks : goal.returns-in-Ok-check-clause-checks
+returns-in-Ok-check-clause-checks g c =
+    checks_torn g.D.Disk.tells g.D.Disk.state g.D.Disk.clock g.D.Disk.since
+    c.args.disk.now (g.met.D.Disk.only_now c.args.disk.now) c.open.new.disk c.open.ensures.moments
+    (g.O.Output.written c.args.output.now)
+    (g.O.Output.written c.say_agreed.new.output) c.in-Ok.engine c.check.new.disk
+    g.D.Disk.fault_count c.in-Ok.ensures.read c.in-Ok.ensures.begins c.check.ensures.looks
+    c.in-Ok-check.agreed c.in-Err-say_agreed.ensures.err
+
+pub returns-clause-checks : goal.returns-clause-checks
+returns-clause-checks g c =
+    checks_refused g.D.Disk.tells g.D.Disk.state g.D.Disk.clock g.D.Disk.since
+    c.args.disk.now (g.met.D.Disk.only_now c.args.disk.now) c.open.new.disk c.open.ensures.moments
+    (g.O.Output.written c.args.output.now)
+    (g.O.Output.written c.end-in-Err-check.new.output) c.in-Ok.engine c.check.new.disk
+    g.D.Disk.fault_count c.in-Ok.ensures.read c.in-Ok.ensures.begins c.check.ensures.looks
+    c.in-Err-check.error c.unagreed.result c.end-in-Err-check.result c.unagreed.ensures.status
+    c.in-Err-check.ensures.finds c.in-Err-check.ensures.agrees c.end-in-Err-check.ensures.ends

@@ -1,0 +1,119 @@
+-- What a run of mode check answers and writes.
+use Rattle.std.specs.Prelude.{◌≡◌, ◌⊎◌, ℕ, List, [], ◌∷◌, length, Option, codes}
+use Rattle.std.specs.Io.KnownBytes.{Appends}
+use Rattle.cdb_model.specs.Causes.{Rose}
+use Rattle.cdb_model.specs.Images.{Base, StandsForOne}
+use Rattle.cdb_model.specs.Maps.{FileMap}
+use Rattle.cdb_model.specs.Publications.{Publication}
+use Rattle.cdb_model.specs.Stands.{Stands}
+use Rattle.cdb_model.specs.Text.{Text, ended, numbered}
+use Rattle.cdb_crash.specs.Crash.{IsWhole}
+use Rattle.cdb_files.specs.Disk as disk
+use Rattle.cdb_manifest.specs.declared.record_.Record.{Record}
+use Rattle.cdb_check.specs.Expected.{Agrees, FirstOther, expected_files}
+use Rattle.cdb_check.specs.Laws.{IsFileCount}
+use Rattle.cdb_check.specs.declared.outcome.CheckError.{CheckError}
+use Rattle.cdb_check.specs.declared.outcome.CheckError.TheVariants as check
+use Rattle.cdb_engine.specs.Checks.{AreOpened}
+use Rattle.cdb_front.specs.Completeness.{Still}
+use Rattle.cdb_front.specs.Devices.{WritesPart}
+use Rattle.cdb_front.specs.EntryStore.{HasStore}
+use Rattle.cdb_front.specs.StatusCodes.{status_line}
+use Rattle.cdb_front.specs.declared.exit_status.Status.{Status}
+use Rattle.cdb_front.specs.declared.exit_status.Status.TheVariants.{Done, Memory, Usage, InputFault, OutputFault, StoreFault, NotAStore, TooLong, Differs}
+
+-- ---- what is written
+
+-- the line where all files agree: how many versions and files there are
+abbrev pub agrees_line : ℕ → ℕ → Text
+agrees_line versions files = ended (numbered (codes "agrees") (versions ∷ files ∷ []))
+
+pub record SaysAgrees (old new : Option (List ℕ)) : Type 0 where
+  pub versions : ℕ
+  pub files : ℕ
+  pub appended : Appends old new (agrees_line versions files)
+
+-- a part of that line was written, or of the line of a status
+pub data SaysPart (old new : Option (List ℕ)) : Type 0 where
+  of_counts : (versions files : ℕ) → WritesPart old new (agrees_line versions files) → SaysPart old new
+  of_status : (status : Status) → WritesPart old new (status_line status) → SaysPart old new
+
+-- one line is written, and the run ends in no other way
+abbrev pub Says : Option (List ℕ) → Option (List ℕ) → Status → Type 0
+Says old new Done = SaysAgrees old new
+Says old new OutputFault = SaysPart old new
+Says old new Usage = ⊥
+Says old new InputFault = ⊥
+Says old new TooLong = ⊥
+Says old new status = Appends old new (status_line status)
+
+-- how a run ends whose check failed
+abbrev pub checked_status : CheckError → Status
+checked_status check.Memory = Memory
+checked_status check.Fault = StoreFault
+checked_status (check.Differs path) = Differs path
+
+-- ---- what is answered over a disk that tells
+
+-- all files that the records of the store that was opened expect are there, and their counts are written
+pub record AgreesAll (before now : FileMap) (old new : Option (List ℕ)) : Type 0 where
+  pub records : List Record
+  pub opened : AreOpened before now records
+  pub agrees : Agrees now records
+  pub appended : Appends old new (agrees_line (length records) (length (expected_files records)))
+
+-- the file at this path is the first of them that isn't as expected
+pub record DiffersFirst (before now : FileMap) (path : Text) : Type 0 where
+  pub records : List Record
+  pub opened : AreOpened before now records
+  pub first : FirstOther now (expected_files records) path
+
+abbrev pub FindsFiles : FileMap → FileMap → Option (List ℕ) → Option (List ℕ) → Status → Type 0
+FindsFiles before now old new Done = AgreesAll before now old new
+FindsFiles before now old new (Differs path) = DiffersFirst before now path.bytes
+FindsFiles before now old new status = Unit {0}
+
+-- ---- what is answered over a store
+
+-- the counts of the list are written, and the disk is whole for it
+pub record AgreesAsListed (list : List Publication) (d : disk.State) (old new : Option (List ℕ)) : Type 0 where
+  pub files : ℕ
+  pub files_are : IsFileCount list files
+  pub appended : Appends old new (agrees_line (length list) files)
+  pub whole : IsWhole Stands list d
+
+-- no file differs
+abbrev pub FindsListed : List Publication → disk.State → Option (List ℕ) → Option (List ℕ) → Status → Type 0
+FindsListed list d old new Done = AgreesAsListed list d old new
+FindsListed list d old new (Differs path) = ⊥
+FindsListed list d old new (NotAStore version place) = ⊥
+FindsListed list d old new status = Unit {0}
+
+-- and whatever a crash leaves since the run began, or at its end, stands for the list, or for one of the early ones
+pub record ChecksStore (base : Base) (Since : FileMap → Type 0) (d : disk.State) (old new : Option (List ℕ))
+    (status : Status) : Type 0 where
+  pub finds : FindsListed base.list d old new status
+  pub since : (m : FileMap) → Since m → StandsForOne (base.list ∷ base.early) m
+
+-- ---- the whole run
+
+pub record Checks {D : Type 0} (tells : Type 0) (state : D → disk.State) (clock : D → ℕ)
+    (since : D → ℕ → FileMap → Type 0) (old new : D) (written written' : Option (List ℕ)) (status : Status)
+    : Type 0 where
+  pub says : Says written written' status
+  pub finds : tells → FindsFiles (state old).present (state new).present written written' status
+  pub store : (base : Base) → HasStore tells base (clock old) (state old)
+      → ChecksStore base (since new (clock old)) (state new) written written' status
+
+-- ---- no device fails
+
+-- over a store it is done, or stopped for want of memory
+abbrev pub CompletesCheckOf : {D O : Type 0} → Type 0 → (D → disk.State) → (D → ℕ) → (D → ℕ → FileMap → Type 0)
+    → (D → ℕ) → (O → Option (List ℕ)) → (O → ℕ) → Type 0
+CompletesCheckOf {D = D} {O = O} tells state clock since disk_faults written output_faults =
+    (old new : D) (output output' : O) (status : Status) (base : Base) → HasStore tells base (clock old) (state old)
+    → Checks tells state clock since old new (written output) (written output') status
+    → (status ≡ StoreFault → Rose (disk_faults old) (disk_faults new))
+    → (status ≡ OutputFault → Rose (output_faults output) (output_faults output'))
+    → Still (disk_faults old) (disk_faults new) → Still (output_faults output) (output_faults output')
+    → (status ≡ Done) ⊎ (status ≡ Memory)
