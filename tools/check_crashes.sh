@@ -1,0 +1,106 @@
+#!/usr/bin/env bash
+# Records the file calls of a publication of the program on real folders, and opens the store over every image
+# that a crash may leave at any moment of them, by the file model of docs/FILE_MODEL.md: version 1 before the rename of
+# the head, either at it, version 2 after it, each with all of its tiles. Then each sync is taken out of the record
+# in turn: but for those that are named below, the images must hold faults. The arguments are the program's path and
+# that of a program `crash_images.py`, which records and replays. Needs python3 and strace.
+set -u
+. "$(dirname "$0")/built.sh" || exit 2
+[ $# = 2 ] || { echo "usage: check_crashes.sh PROGRAM CRASH_IMAGES" >&2; exit 2; }
+[ -f "$2" ] || { echo "skipped: $2 is missing"; exit 0; }
+need python3 strace
+
+folder=$(mktemp -d)
+trap 'rm -rf "$folder"' EXIT
+
+python3 - "$(realpath "$1")" "$(realpath "$2")" "$folder" <<'PYTHON'
+import concurrent.futures
+import os
+import re
+import shutil
+import subprocess
+import sys
+
+program, images, folder = sys.argv[1:4]
+os.chdir(folder)
+
+FIRST = b"inline elev -9 46 7 1/2 1/2 2 2 30 40 10 20\npublish\nstep all\n"
+SECOND = b"""inline elev -9 46 7 1/2 1/2 1 1 600
+inline mat -9 47 8 1/2 1/2 2 2 1 2 3 4
+publish
+step all
+"""
+CELLS = [("N46E007", "D001_S001_T001"), ("N46E007", "D002_S001_T001"), ("N46E007", "D002_S001_T002"), ("N47E008", "D005_S001_T001")]
+NAMES = [f"{cell}_{dataset}_LC{level:02d}_U0_R0.tif" for cell, dataset in CELLS for level in (9, 10)]
+ASK = b"versions\nopen\n" + b"".join(f"tile 1 {name}\n".encode() for name in NAMES)
+
+# judges an image: the store opens at a version, and answers each tile as it did when it was whole
+JUDGE = f"""import subprocess, sys
+done = subprocess.run([{program!r}, "--background", "0"], input={ASK!r}, capture_output=True)
+for version in (1, 2):
+    if done.stdout == open({folder!r} + "/answers%d" % version, "rb").read() and done.returncode == 0:
+        print("version", version)
+        sys.exit(0)
+print("fault")
+sys.exit(1)
+"""
+
+
+def run(script, place="."):
+    return subprocess.run([program, "--background", "0"], cwd=place, input=script, capture_output=True, check=True).stdout
+
+
+def replayed(number, lines):
+    """The output of a replay, and how many images have a fault."""
+    log = f"log{number}"
+    with open(log, "w") as file:
+        file.writelines(lines)
+    shutil.copyfile("log.cwd", log + ".cwd")
+    words = [sys.executable, images, "replay", log, "cdb", f"{folder}/image{number}", "--images", "2", "--before", "before"]
+    done = subprocess.run([*words, "--", sys.executable, f"{folder}/judge.py"], capture_output=True, text=True)
+    os.remove(log)
+    shutil.rmtree(f"image{number}", ignore_errors=True)
+    last = done.stdout.strip().split("\n")[-1]
+    found = re.fullmatch(r"crash_images: (\d+) moments, (\d+) different images, (\d+) with a code other than 0", last)
+    if not found:
+        sys.exit("no end of a replay: " + done.stdout[-400:] + done.stderr[-400:])
+    return done.stdout, int(found[3])
+
+
+open("judge.py", "w").write(JUDGE)
+os.makedirs("cdb")
+os.makedirs("in")
+run(FIRST)
+shutil.copytree("cdb", "before")
+open("answers1", "wb").write(run(ASK))
+open("second", "wb").write(SECOND)
+subprocess.run([sys.executable, images, "record", "log", "--", "sh", "-c", f"'{program}' --background 0 <second"], check=True, stdout=subprocess.DEVNULL)
+open("answers2", "wb").write(run(ASK))
+
+lines = open("log").readlines()
+output, faults = replayed("-whole", lines)
+print(output.strip())
+moments = [line.split(": ", 2)[-1] for line in output.strip().split("\n")[:-1]]
+wrong = faults != 0 or moments != ["version 1", "version 1  OR  0: version 2", "version 2"]
+
+# the syncs, by what they sync: the folders of the process, followed through its opens
+syncs, open_paths = [], {}
+for number, line in enumerate(lines):
+    opened = re.search(r'open(?:at)?\((?:[^"]*)"((?:\\x[0-9a-f]{2})*)".*\) += (\d+)', line)
+    if opened:
+        open_paths[opened[2]] = bytes.fromhex(opened[1].replace("\\x", "")).decode()
+    synced = re.search(r"fsync\((\d+)\) += 0", line)
+    if synced:
+        syncs.append((number, open_paths.get(synced[1], "?")))
+
+with concurrent.futures.ThreadPoolExecutor(2) as pool:
+    found = list(pool.map(lambda sync: replayed(sync[0], lines[: sync[0]] + lines[sync[0] + 1 :])[1], syncs))
+begun = next(number for number, line in enumerate(lines) if "mkdir" in line and line.rstrip().endswith("= 0"))
+for (number, path), faults in zip(syncs, found):
+    # recovery's sync of the store's folder, and that of the folder above, are for what an earlier run may have left
+    needed = number > begun
+    print(f"without the sync of {path}: {faults} images with a fault" + ("" if needed else " (not needed over a clean store)"))
+    wrong = wrong or (needed and faults == 0)
+print("0 failures" if not wrong else "FAILED")
+sys.exit(1 if wrong else 0)
+PYTHON
