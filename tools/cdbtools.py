@@ -139,6 +139,7 @@ STATUSES = {
     5: "a call of the disk failed while the store was opened",
     6: "the folder isn't a store, or one that was damaged",
     7: "its input was too long",
+    8: "a file of the store differs",
 }
 
 REFUSALS = {
