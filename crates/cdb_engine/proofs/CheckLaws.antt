@@ -30,11 +30,10 @@ use Rattle.cdb_engine.specs.Tracks.{Works, Tracks, Origin}
 agrees_with : (m : FileMap) (list : List Publication) (records : List Record) (result : Result Agreed CheckError)
     → Stands m list → AreRecords records list → Finds m (expected_files records) result → IfOk result (Tells records)
     → AgreesWith list result
-agrees_with m list records (Ok agreed) stands are found told =
-    (
-      told.versions ∙ are.count,
-      subst (IsFileCount list) (sym told.files) (counted 0 [] records list (of_records records list are)),
-    )
+agrees_with m list records (Ok agreed) stands are found told = (
+  told.versions ∙ are.count,
+  subst (IsFileCount list) (sym told.files) (counted 0 [] records list (of_records records list are)),
+)
 agrees_with m list records (Err Memory) stands are found told = tt
 agrees_with m list records (Err Fault) stands are found told = tt
 agrees_with m list records (Err (Differs path)) stands are found told =
