@@ -1,0 +1,2 @@
+pub mod Populating
+pub mod Filling
