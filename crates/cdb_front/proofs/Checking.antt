@@ -32,7 +32,7 @@ use Rattle.cdb_front.specs.EntryStore.{HasStore}
 use Rattle.cdb_front.specs.RunOutcome.{EndsWith, is_whole, is_part, status_of}
 use Rattle.cdb_front.specs.StatusCodes.{status_line}
 use Rattle.cdb_front.specs.declared.exit_status.Status.{Status}
-use Rattle.cdb_front.specs.declared.exit_status.Status.TheVariants.{Done, Memory, Usage, InputFault, OutputFault, StoreFault, NotAStore, TooLong, Differs}
+use Rattle.cdb_front.specs.declared.exit_status.Status.TheVariants.{Done, Memory, Usage, InputFault, OutputFault, StoreFault, NotAStore, TooLong, Differs, Refused, Damaged}
 use Rattle.cdb_front.proofs.Exits.{of_entry}
 
 -- ---- what was written
@@ -44,6 +44,8 @@ IsPlain Usage = ⊥
 IsPlain InputFault = ⊥
 IsPlain OutputFault = ⊥
 IsPlain TooLong = ⊥
+IsPlain (Refused limit) = ⊥
+IsPlain (Damaged expected found) = ⊥
 IsPlain status = Unit {0}
 
 says_whole : (status : Status) (old new : Option (List ℕ)) → IsPlain status → Appends old new (status_line status)
@@ -57,6 +59,8 @@ says_whole Usage old new plain whole = absurd plain
 says_whole InputFault old new plain whole = absurd plain
 says_whole OutputFault old new plain whole = absurd plain
 says_whole TooLong old new plain whole = absurd plain
+says_whole (Refused limit) old new plain whole = absurd plain
+says_whole (Damaged expected found) old new plain whole = absurd plain
 
 says_end : (status result : Status) (old new : Option (List ℕ)) → IsPlain status → EndsWith status old new result
     → Says old new result
@@ -163,7 +167,6 @@ module _ {D : Type 0} (tells : Type 0) (state : D → disk.State) (clock : D →
     (old : D) (only_now : (m : FileMap) → since old (clock old) m → IsImage (state old) m) (mid : D)
     (moments : tells → (list : List Publication) (early : List (List Publication)) → IsStore list early (state old)
     → AddsOnly clock since old mid (StandsForOne (list ∷ early))) (written written' : Option (List ℕ)) where
-
   -- the store wasn't opened
   pub checks_unopened : (error : OpenError) (status result : Status) → status ≡ status_of error
       → (tells → (list : List Publication) (early : List (List Publication)) → IsStore list early (state old)
@@ -257,7 +260,7 @@ module _ {D : Type 0} (tells : Type 0) (state : D → disk.State) (clock : D →
 
 -- ---- no device fails
 
-no_rise : (before now : ℕ) → Still before now → Rose before now → ⊥
+pub no_rise : (before now : ℕ) → Still before now → Rose before now → ⊥
 no_rise before now s rose = let e = s.0 in let l = s.1 in omega (arith, e, l, rose)
 
 pub completes_check : {D O : Type 0} (tells : Type 0) (state : D → disk.State) (clock : D → ℕ)
@@ -280,5 +283,7 @@ completes_check tells state clock since disk_faults written output_faults old ne
     by Usage says finds stored wrote = absurd says
     by InputFault says finds stored wrote = absurd says
     by TooLong says finds stored wrote = absurd says
+    by (Refused limit) says finds stored wrote = absurd says
+    by (Damaged expected found) says finds stored wrote = absurd says
     by (NotAStore version place) says finds stored wrote = absurd finds
     by (Differs path) says finds stored wrote = absurd finds

@@ -10,7 +10,7 @@ use Rattle.cdb_front.specs.Headline.{Devices}
 use Rattle.cdb_front.specs.RunOutcome.{EndsWith, is_whole, is_part, IsOfStore}
 use Rattle.cdb_front.specs.RunProgress.{Holds}
 use Rattle.cdb_front.specs.declared.exit_status.Status.{Status}
-use Rattle.cdb_front.specs.declared.exit_status.Status.TheVariants.{Done, Memory, Usage, InputFault, OutputFault, StoreFault, NotAStore, TooLong, Differs}
+use Rattle.cdb_front.specs.declared.exit_status.Status.TheVariants.{Done, Memory, Usage, InputFault, OutputFault, StoreFault, NotAStore, TooLong, Differs, Refused, Damaged}
 
 no_rise : (before now : ℕ) → Still before now → Rose before now → ⊥
 no_rise before now s rose = let e = s.0 in let l = s.1 in omega (arith, e, l, rose)
@@ -55,3 +55,5 @@ completes v input_faults output_faults life base goes u =
         (u.output_failed is))
     by (NotAStore version place) is = absurd (subst IsOfStore is of_store)
     by (Differs path) is = absurd (subst IsOfStore is of_store)
+    by (Refused limit) is = absurd (subst IsOfStore is of_store)
+    by (Damaged expected found) is = absurd (subst IsOfStore is of_store)

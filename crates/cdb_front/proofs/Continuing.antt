@@ -22,7 +22,7 @@ use Rattle.cdb_front.specs.Headline.{Devices, Life, Goes, Meets, Reopens, Stops,
 use Rattle.cdb_front.specs.RunOutcome.{Hears, IsOfStore, WasOpened, IsClosed, IsAtRest, RestsAt, StandsAtExit}
 use Rattle.cdb_front.specs.RunProgress.{Holds}
 use Rattle.cdb_front.specs.declared.exit_status.Status.{Status}
-use Rattle.cdb_front.specs.declared.exit_status.Status.TheVariants.{Done, Memory, Usage, InputFault, OutputFault, StoreFault, NotAStore, TooLong, Differs}
+use Rattle.cdb_front.specs.declared.exit_status.Status.TheVariants.{Done, Memory, Usage, InputFault, OutputFault, StoreFault, NotAStore, TooLong, Differs, Refused, Damaged}
 use Rattle.cdb_front.proofs.Exits.{IsAcknowledged, kept_first, take-none}
 use Rattle.cdb_front.proofs.Many.{only_whole}
 
@@ -84,6 +84,8 @@ opened_or_closed StoreFault o = inr tt
 opened_or_closed (NotAStore version place) o = absurd o
 opened_or_closed TooLong o = inl tt
 opened_or_closed (Differs path) o = absurd o
+opened_or_closed (Refused limit) o = absurd o
+opened_or_closed (Damaged expected found) o = absurd o
 
 heard_nothing : (status : Status) (lines heard : List Text) (rest : Text) → IsClosed status
     → Hears status lines rest heard → heard ≡ []
@@ -96,6 +98,8 @@ heard_nothing StoreFault lines heard rest c h = h
 heard_nothing (NotAStore version place) lines heard rest c h = h
 heard_nothing TooLong lines heard rest c h = absurd c
 heard_nothing (Differs path) lines heard rest c h = absurd c
+heard_nothing (Refused limit) lines heard rest c h = absurd c
+heard_nothing (Damaged expected found) lines heard rest c h = absurd c
 
 no_items : (items unmade : List Item) → [] ≡ items ++ unmade → items ≡ []
 no_items [] unmade e = refl
@@ -207,6 +211,8 @@ module _ (v : Devices) (life : Life v) (base : Base) (goes : Goes v life (Some b
   exit_left OutputFault keep m none s = extended goes.run.begun keep base m s
   exit_left TooLong keep m none s = extended goes.run.begun keep base m s
   exit_left (Differs path) keep m none s = extended goes.run.begun keep base m s
+  exit_left (Refused limit) keep m none s = extended goes.run.begun keep base m s
+  exit_left (Damaged expected found) keep m none s = extended goes.run.begun keep base m s
   exit_left Memory keep m none (inl s) = extended goes.run.begun keep base m s
   exit_left Memory keep m none (inr s) = let r = one_of base.early m s in (r.0, inr (none tt, r.1), r.2)
   exit_left Usage keep m none (inl s) = extended goes.run.begun keep base m s
@@ -268,6 +274,8 @@ module _ (v : Devices) (life : Life v) (base : Base) (goes : Goes v life (Some b
   rested (NotAStore version place) s d o r = absurd o
   rested TooLong s d o r = r
   rested (Differs path) s d o r = absurd o
+  rested (Refused limit) s d o r = absurd o
+  rested (Damaged expected found) s d o r = absurd o
 
   first : IsAcknowledged goes.run.has_begun.complete kept
   first = kept_first (Holds v.shelf_tells (v.files life.shelf)) base.list goes.run.state goes.transcript.items
@@ -366,6 +374,8 @@ module _ (v : Devices) (life : Life v) (base : Base) (goes : Goes v life (Some b
       by (NotAStore version place) c k = of k
       by TooLong c k = absurd c
       by (Differs path) c k = absurd c
+      by (Refused limit) c k = absurd c
+      by (Damaged expected found) c k = absurd c
 
   leaves_opened : kept ≡ [] → MayLeave base goes.run.begun kept base.list
   leaves_opened none = inl record {

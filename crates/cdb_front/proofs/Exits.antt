@@ -25,7 +25,7 @@ use Rattle.cdb_front.specs.Followed.{Sight, IsLeftBy, IsFollowed, IsBegun}
 use Rattle.cdb_front.specs.RunOutcome.{EndsFrom, EndsWith, Stops, Outcome, WasOpened, IsClosed, IsOfStore, StandsAtExit, IsAtRest, RestsAt}
 use Rattle.cdb_front.specs.RunProgress.{Entry, Holds, Runs, Ordered, Told, base_of}
 use Rattle.cdb_front.specs.declared.exit_status.Status.{Status}
-use Rattle.cdb_front.specs.declared.exit_status.Status.TheVariants.{Done, Memory, Usage, InputFault, OutputFault, StoreFault, NotAStore, TooLong, Differs}
+use Rattle.cdb_front.specs.declared.exit_status.Status.TheVariants.{Done, Memory, Usage, InputFault, OutputFault, StoreFault, NotAStore, TooLong, Differs, Refused, Damaged}
 
 -- ---- what is acknowledged
 
@@ -103,6 +103,8 @@ at_exit StoreFault base begun kept m s = inl s
 at_exit (NotAStore version place) base begun kept m s = inl s
 at_exit TooLong base begun kept m s = s
 at_exit (Differs path) base begun kept m s = s
+at_exit (Refused limit) base begun kept m s = s
+at_exit (Damaged expected found) base begun kept m s = s
 
 -- the disk that is left
 none_of : (going : Option Going) → ((now : Going) → going ≡ Some now → ⊥) → going ≡ None
@@ -126,6 +128,8 @@ rests_at StoreFault s d r = tt
 rests_at (NotAStore version place) s d r = tt
 rests_at TooLong s d r = r
 rests_at (Differs path) s d r = tt
+rests_at (Refused limit) s d r = tt
+rests_at (Damaged expected found) s d r = tt
 
 opened_store : (status : Status) → WasOpened status → IsOfStore status
 opened_store Done o = tt
@@ -137,6 +141,8 @@ opened_store StoreFault o = absurd o
 opened_store (NotAStore version place) o = absurd o
 opened_store TooLong o = tt
 opened_store (Differs path) o = absurd o
+opened_store (Refused limit) o = absurd o
+opened_store (Damaged expected found) o = absurd o
 
 -- a run that is followed has ended
 pub ended : (Has : Text → Content → Type 0) (tells : Type 0) (from : Option Base) (status : Status) (items : List Item)
@@ -280,6 +286,8 @@ rests_shut StoreFault s d c = tt
 rests_shut (NotAStore version place) s d c = tt
 rests_shut TooLong s d c = absurd c
 rests_shut (Differs path) s d c = absurd c
+rests_shut (Refused limit) s d c = absurd c
+rests_shut (Damaged expected found) s d c = absurd c
 
 exit_shut : (status : Status) (base : Base) (kept : List Publication) (m : FileMap) → IsClosed status
     → StandsKept base.list [] kept m ⊎ StandsForOne base.early m
@@ -293,6 +301,8 @@ exit_shut StoreFault base kept m c s = s
 exit_shut (NotAStore version place) base kept m c s = s
 exit_shut TooLong base kept m c s = absurd c
 exit_shut (Differs path) base kept m c s = absurd c
+exit_shut (Refused limit) base kept m c s = absurd c
+exit_shut (Damaged expected found) base kept m c s = absurd c
 
 -- the run ended in opening: every image stands for the list, or for one of the early ones
 pub closed : {D : Type 0} (tells : Type 0) (Has : Text → Content → Type 0) (clock : D → ℕ)

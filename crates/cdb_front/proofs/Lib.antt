@@ -13,3 +13,4 @@ pub mod Completing
 pub mod Checking
 pub mod Serving
 pub mod InTime
+pub mod Generating

@@ -13,7 +13,7 @@ use Rattle.cdb_model.specs.Images.{StandsFrom, StandsKept, StandsSince}
 use Rattle.cdb_front.specs.RunOutcome.{StandsAtExit}
 use Rattle.cdb_front.specs.Headline.{Devices, Life, Goes, Meets, IsOnly, Stops, amid, at_end, whole_for, acked, Adds, Follow, WasAcked, Kept, Headline}
 use Rattle.cdb_front.specs.declared.exit_status.Status.{Status}
-use Rattle.cdb_front.specs.declared.exit_status.Status.TheVariants.{Done, Memory, Usage, InputFault, OutputFault, StoreFault, NotAStore, TooLong, Differs}
+use Rattle.cdb_front.specs.declared.exit_status.Status.TheVariants.{Done, Memory, Usage, InputFault, OutputFault, StoreFault, NotAStore, TooLong, Differs, Refused, Damaged}
 
 -- a store that nothing else may be left of
 no_early : (aim : Status) (list : List Publication) (moment : ℕ) (begun kept : List Publication) (m : FileMap)
@@ -31,6 +31,8 @@ no_early StoreFault list moment begun kept m (inl s) = s
 no_early StoreFault list moment begun kept m (inr e) = absurd e
 no_early TooLong list moment begun kept m s = s
 no_early (Differs path) list moment begun kept m s = s
+no_early (Refused limit) list moment begun kept m s = s
+no_early (Damaged expected found) list moment begun kept m s = s
 
 since_early : (list : List Publication) (moment : ℕ) (begun : List Publication) (m : FileMap)
     → StandsSince (record { list = list; early = []; moment = moment }) begun m → StandsFrom list begun m

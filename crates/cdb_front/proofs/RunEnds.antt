@@ -14,7 +14,7 @@ use Rattle.cdb_front.specs.RunOutcome.{Stops, IsOfStore, Hears, Makes, WritesAns
 use Rattle.cdb_front.specs.RunProgress.{Entry, Told, Sofar, Answered, IsQuit, Broken, UpTo}
 use Rattle.cdb_front.specs.RunReading.{Reading}
 use Rattle.cdb_front.specs.declared.exit_status.Status.{Status}
-use Rattle.cdb_front.specs.declared.exit_status.Status.TheVariants.{Done, Memory, Usage, InputFault, OutputFault, StoreFault, NotAStore, TooLong, Differs}
+use Rattle.cdb_front.specs.declared.exit_status.Status.TheVariants.{Done, Memory, Usage, InputFault, OutputFault, StoreFault, NotAStore, TooLong, Differs, Refused, Damaged}
 
 -- nothing was read, and nothing answered
 abbrev pub reading_begins : {tells : Type 0} {e : Entry} (left : Option (List ℕ)) {written : Option (List ℕ)}
@@ -301,6 +301,8 @@ stops_closed {tells = tells} {e = e} status left written shelf disk Now closed t
     by OutputFault c = absurd c
     by TooLong c = absurd c
     by (Differs path) c = absurd c
+    by (Refused limit) c = absurd c
+    by (Damaged expected found) c = absurd c
 
 -- ---- no store
 
@@ -316,6 +318,8 @@ says_no_store tells present status InputFault same says = tt
 says_no_store tells present status StoreFault same says = tt
 says_no_store tells present status TooLong same says = tt
 says_no_store tells present status (Differs path) same says = tt
+says_no_store tells present status (Refused limit) same says = tt
+says_no_store tells present status (Damaged expected found) same says = tt
 says_no_store tells present status (NotAStore version place) same says =
     subst (λ (x : Status). SaysNoStore tells present x) (sym (same (λ e. cc))) says
 
@@ -330,6 +334,8 @@ opened_says tells present OutputFault o = tt
 opened_says tells present StoreFault o = tt
 opened_says tells present TooLong o = tt
 opened_says tells present (Differs path) o = tt
+opened_says tells present (Refused limit) o = tt
+opened_says tells present (Damaged expected found) o = tt
 opened_says tells present (NotAStore version place) o = absurd o
 
 -- a store that wasn't opened

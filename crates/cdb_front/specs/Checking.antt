@@ -20,7 +20,7 @@ use Rattle.cdb_front.specs.Devices.{WritesPart}
 use Rattle.cdb_front.specs.EntryStore.{HasStore}
 use Rattle.cdb_front.specs.StatusCodes.{status_line}
 use Rattle.cdb_front.specs.declared.exit_status.Status.{Status}
-use Rattle.cdb_front.specs.declared.exit_status.Status.TheVariants.{Done, Memory, Usage, InputFault, OutputFault, StoreFault, NotAStore, TooLong, Differs}
+use Rattle.cdb_front.specs.declared.exit_status.Status.TheVariants.{Done, Memory, Usage, InputFault, OutputFault, StoreFault, NotAStore, TooLong, Differs, Refused, Damaged}
 
 -- ---- what is written
 
@@ -45,6 +45,8 @@ Says old new OutputFault = SaysPart old new
 Says old new Usage = ⊥
 Says old new InputFault = ⊥
 Says old new TooLong = ⊥
+Says old new (Refused limit) = ⊥
+Says old new (Damaged expected found) = ⊥
 Says old new status = Appends old new (status_line status)
 
 -- how a run ends whose check failed

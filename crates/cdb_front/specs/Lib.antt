@@ -15,6 +15,6 @@ pub mod Failures
 pub mod Headline
 pub mod Completeness
 pub mod Checking
+pub mod Generating
 pub mod Served
 pub mod Continued
-pub mod WordedRuns

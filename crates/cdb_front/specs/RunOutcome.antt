@@ -28,7 +28,7 @@ use Rattle.cdb_front.specs.RunProgress.{Entry, Holds, Runs, Ordered}
 use Rattle.cdb_front.specs.StatusCodes.{status_line}
 use Rattle.cdb_front.specs.Stepping.{Counts}
 use Rattle.cdb_front.specs.declared.exit_status.Status.{Status}
-use Rattle.cdb_front.specs.declared.exit_status.Status.TheVariants.{Done, Memory, Usage, InputFault, OutputFault, StoreFault, NotAStore, TooLong, Differs}
+use Rattle.cdb_front.specs.declared.exit_status.Status.TheVariants.{Done, Memory, Usage, InputFault, OutputFault, StoreFault, NotAStore, TooLong, Differs, Refused, Damaged}
 
 -- ---- what was read, what was answered to it, and what was written
 
@@ -77,6 +77,8 @@ Finishes OutputFault left read unread rest = (length read < 2 ^ 32) × IsLineEnd
 Finishes InputFault left read unread rest = (unread ≡ []) × (length read < 2 ^ 32)
 Finishes TooLong left read unread rest = (unread ≡ []) × (length read ≡ 2 ^ 32)
 Finishes (Differs path) left read unread rest = ⊥
+Finishes (Refused limit) left read unread rest = ⊥
+Finishes (Damaged expected found) left read unread rest = ⊥
 Finishes status left read unread rest = (unread ≡ []) × (read ≡ [])
 
 -- what was read of the input, what was answered to it, and what was written of that, before the line of the status
@@ -131,6 +133,8 @@ pub data EndsWith (status : Status) (old new : Option (List ℕ)) : Status → T
 abbrev pub IsOfStore : Status → Type 0
 IsOfStore (NotAStore version place) = ⊥
 IsOfStore (Differs path) = ⊥
+IsOfStore (Refused limit) = ⊥
+IsOfStore (Damaged expected found) = ⊥
 IsOfStore status = Unit {0}
 
 -- the store was opened
@@ -163,6 +167,8 @@ StandsAtExit InputFault base begun kept m = StandsKept base.list begun kept m
 StandsAtExit OutputFault base begun kept m = StandsKept base.list begun kept m
 StandsAtExit TooLong base begun kept m = StandsKept base.list begun kept m
 StandsAtExit (Differs path) base begun kept m = StandsKept base.list begun kept m
+StandsAtExit (Refused limit) base begun kept m = StandsKept base.list begun kept m
+StandsAtExit (Damaged expected found) base begun kept m = StandsKept base.list begun kept m
 StandsAtExit status base begun kept m = StandsKept base.list begun kept m ⊎ StandsForOne base.early m
 
 -- what a run finds that begins on the same disk without a stop: a whole one, or one that a fault left, where it is

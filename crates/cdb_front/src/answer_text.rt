@@ -29,7 +29,7 @@ fn push_large(text: &mut ArrayString<64>, number: u128)
 }
 
 pub fn word(text: &str) -> ArrayString<64>
-    requires { length text.now ≤ 20 }
+    requires { length text.now ≤ 60 }
     ensures bytes { result.bytes ≡ text.now }
     ensures length { array_string_len result ≡ length text.now }
 {
@@ -114,7 +114,7 @@ fn push_found(text: &mut ArrayString<64>, found: Option<u64>)
 }
 
 /// A line with the size that a file should have and the one that it has, if it is there.
-fn sizes_line(name: &str, expected: u64, found: Option<u64>) -> ArrayString<64>
+pub fn sizes_line(name: &str, expected: u64, found: Option<u64>) -> ArrayString<64>
     requires { length name.now ≤ 20 }
     ensures { result.bytes ≡ ended (sizes_text name.now expected found) }
 {

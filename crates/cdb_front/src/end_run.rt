@@ -3,10 +3,10 @@ ghost use Rattle.cdb_model.specs.Text.{ended};
 ghost use Rattle.cdb_model.specs.Causes.{Rose};
 ghost use Rattle.cdb_front.specs.Failures.{WritesOnce};
 ghost use Rattle.cdb_front.specs.RunOutcome.{EndsWith};
-ghost use Rattle.cdb_front.specs.StatusCodes.{status_line};
+ghost use Rattle.cdb_front.specs.StatusCodes.{status_line, limit_text};
 
-use crate::answer_text::{line, line_with_two, word};
-use crate::exit_status::Status;
+use crate::answer_text::{line, line_with, line_with_two, sizes_line, word};
+use crate::exit_status::{Limit, Status};
 use crate::output::Output;
 use crate::write::write_all;
 use arrayvec::ArrayString;
@@ -33,6 +33,16 @@ fn path_line(name: &str, path: &Path) -> ArrayString<160>
     text
 }
 
+/// The line of a limit.
+fn limit_line(limit: &Limit) -> ArrayString<64>
+    ensures { result.bytes ≡ limit_text limit.now }
+{
+    match limit {
+        Limit::Entries { count } => line_with("cdb: refused entries", *count),
+        Limit::Versions => line(word("cdb: refused versions")),
+    }
+}
+
 /// The line that is written before a run ends so.
 fn line_of(status: &Status) -> ArrayString<160>
     ensures { result.bytes ≡ status_line status.now }
@@ -48,6 +58,10 @@ fn line_of(status: &Status) -> ArrayString<160>
         }
         Status::TooLong => widened(line(word("cdb: input too long"))),
         Status::Differs { path } => path_line("cdb: differs ", path),
+        Status::Refused(limit) => widened(limit_line(limit)),
+        Status::Damaged { expected, found } => {
+            widened(sizes_line("cdb: damaged", *expected, *found))
+        }
     }
 }
 

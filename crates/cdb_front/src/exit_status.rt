@@ -26,6 +26,19 @@ pub enum Status {
     TooLong,
     /// A file of the store isn't what its records and source files give: the one at `path` is the first.
     Differs { path: Path },
+    /// The store has no room for a further publication.
+    Refused(Limit),
+    /// A file has another size than its form gives, `expected`, or isn't there.
+    Damaged { expected: u64, found: Option<u64> },
+}
+
+/// Why a store has no room for a further publication.
+#[derive(Clone, Copy, Debug, PartialEq, Eq)]
+pub enum Limit {
+    /// The tile entries of all records would be `count`, above 1,000,000.
+    Entries { count: u32 },
+    /// There are 4,096 versions.
+    Versions,
 }
 
 impl Status {
@@ -43,6 +56,8 @@ impl Status {
             Status::NotAStore { .. } => 6,
             Status::TooLong => 7,
             Status::Differs { .. } => 8,
+            Status::Refused(_) => 9,
+            Status::Damaged { .. } => 11,
         }
     }
 }

@@ -10,6 +10,7 @@ mod engine_lines;
 mod exit_status;
 mod failed;
 mod fed;
+mod filled_run;
 mod heard;
 mod input;
 mod line_maker;
@@ -30,11 +31,13 @@ mod store_calls;
 mod worded_run;
 mod write;
 
-pub use exit_status::Status;
+pub use exit_status::{Limit, Status};
 pub use failed::Failed;
 pub use input::Input;
 pub use mem_input::MemInput;
 pub use mem_output::MemOutput;
 pub use output::Output;
-pub use run_laws::{check_completeness, completeness, continues, headline, serves_tiles};
+pub use run_laws::{
+    check_completeness, completeness, continues, fill_completeness, headline, serves_tiles,
+};
 pub use worded_run::cdb_run;

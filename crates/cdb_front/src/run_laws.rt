@@ -2,6 +2,7 @@
 ghost use Rattle.cdb_front.specs.Checking.{CompletesCheckOf};
 ghost use Rattle.cdb_front.specs.Completeness.{CompletesOf};
 ghost use Rattle.cdb_front.specs.Continued.{ContinuesOf};
+ghost use Rattle.cdb_front.specs.Generating.{CompletesFillOf};
 ghost use Rattle.cdb_front.specs.Headline.{HeadlineOf};
 ghost use Rattle.cdb_front.specs.Served.{ServesTilesOf};
 
@@ -30,6 +31,11 @@ pub fn completeness<D: Disk, H: Shelf, I: Input, O: Output>(
 /// Where no device fails, a run of mode check over a store is done, or wants memory.
 pub fn check_completeness<D: Disk, O: Output>(disk: &D, output: &O)
     ensures { CompletesCheckOf D.tells D.state D.clock D.since D.fault_count O.written O.fault_count }
+{}
+
+/// Where no device fails, a run of mode generate over a store is done, or wants memory, or reaches a limit.
+pub fn fill_completeness<D: Disk, O: Output>(disk: &D, output: &O)
+    ensures { CompletesFillOf D.tells D.state D.clock D.since D.fault_count O.written O.fault_count }
 {}
 
 /// Any number of runs, each over what a stop of the one before left or, where the disk is clear, on

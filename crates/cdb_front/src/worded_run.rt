@@ -1,17 +1,18 @@
-ghost use Rattle.std.specs.Prelude.{◌≡◌, ◌≢◌, ◌+◌, ◌⊎◌, ◌≤◌, Some, map};
+ghost use Rattle.std.specs.Prelude.{◌≡◌, ◌≢◌, ◌+◌, ◌⊎◌, ◌≤◌, None, Some, map};
 ghost use Rattle.cdb_commands.specs.Options.{options_of};
-ghost use Rattle.cdb_commands.specs.declared.options.Mode.TheVariants.{Run, Check};
+ghost use Rattle.cdb_commands.specs.declared.options.Mode.TheVariants.{Run, Check, Generate};
 ghost use Rattle.cdb_commands.specs.declared.options.Options.{Options as given};
 ghost use Rattle.cdb_model.specs.Causes.{Rose};
 ghost use Rattle.cdb_front.specs.Checking.{Checks};
 ghost use Rattle.cdb_front.specs.Failures.{WritesOnce};
+ghost use Rattle.cdb_front.specs.Generating.{Fills};
 ghost use Rattle.cdb_front.specs.Headline.{MeetsOf};
 ghost use Rattle.cdb_front.specs.RunOutcome.{SaysNoStore};
-ghost use Rattle.cdb_front.specs.WordedRuns.{IsNoRun};
 
 use crate::checked_run::check_over;
 use crate::end_run::end;
 use crate::exit_status::Status;
+use crate::filled_run::fill_over;
 use crate::input::Input;
 use crate::opened_run::run_over;
 use crate::output::Output;
@@ -19,12 +20,18 @@ use cdb_commands::{Mode, WordsError, read_words};
 use cdb_files::{Disk, Shelf};
 use std::alloc::Global;
 
-/// Runs the program with these words, which don't hold its own name. `Usage` where they aren't options
-/// of the program, or ask for mode `generate`, which isn't built; nothing is opened then.
+/// Runs the program with these words, which don't hold its own name. `Usage` exactly where they aren't
+/// options of the program; nothing is opened then.
 ///
 /// In mode `check` it opens the store on `disk`, looks at each file that its records expect, and writes
 /// `agrees` and how many versions and files there are, or ends with `Differs` and the path of the first
-/// file that isn't as the records and source files give it. Then no input is read and no shelf.
+/// file that isn't as the records and source files give it.
+///
+/// In mode `generate` it opens the store on `disk`, makes as many publications as the words say of the
+/// generator that begins with their start, and writes the newest version, how many files of tiles it
+/// made, and the sum of the values in them. `Refused` where the store has no room for the next one, and
+/// `Damaged` where a file that is read has another size than its form gives. In neither mode an input or
+/// the shelf is read.
 ///
 /// In mode `run` it opens the store on `disk`, reads a script from `input` line by line, and writes the answer
 /// to each line to `output` before it reads the next. As many steps of a publication that is going as
@@ -50,10 +57,14 @@ pub fn cdb_run<D: Disk, H: Shelf, I: Input, O: Output>(
     ensures checks { (options : given) → options_of (map (λ s. s.now) words.now) ≡ Some options → options.mode ≡ Check
         → Checks D.tells D.state D.clock D.since disk.old disk.new (O.written output.old) (O.written output.new)
         result }
+    ensures fills { (options : given) → options_of (map (λ s. s.now) words.now) ≡ Some options
+        → options.mode ≡ Generate
+        → Fills D.tells D.state D.clock D.since options.start options.count disk.old disk.new (O.written output.old)
+        (O.written output.new) result }
     ensures untouched { (options : given) → options_of (map (λ s. s.now) words.now) ≡ Some options
-        → options.mode ≡ Check → (input.new ≡ input.old) × (shelf.new ≡ shelf.old) }
-    ensures usage { result ≡ Status.Usage → IsNoRun (options_of (map (λ s. s.now) words.now)) }
-    ensures refused { IsNoRun (options_of (map (λ s. s.now) words.now))
+        → options.mode ≢ Run → (input.new ≡ input.old) × (shelf.new ≡ shelf.old) }
+    ensures usage { result ≡ Status.Usage → options_of (map (λ s. s.now) words.now) ≡ None }
+    ensures refused { options_of (map (λ s. s.now) words.now) ≡ None
         → (result ≡ Status.Usage) ⊎ ((result ≡ Status.Memory) ⊎ (result ≡ Status.OutputFault)) }
     ensures input_failed { result ≡ Status.InputFault → Rose (I.fault_count input.old) (I.fault_count input.new) }
     ensures store_failed { result ≡ Status.StoreFault → Rose (D.fault_count disk.old) (D.fault_count disk.new) }
@@ -82,6 +93,6 @@ pub fn cdb_run<D: Disk, H: Shelf, I: Input, O: Output>(
             output,
         ),
         Mode::Check => check_over(alloc, disk, output),
-        Mode::Generate => end(output, Status::Usage),
+        Mode::Generate => fill_over(alloc, options.start, options.count, disk, output),
     }
 }

@@ -3,6 +3,7 @@ use Rattle.cdb_front.specs.RunProgress.{Entry, Holds}
 use Rattle.cdb_front.specs.declared.exit_status.Status.TheVariants.{Memory}
 use Rattle.cdb_front.proofs.Checking.{checks_nothing}
 use Rattle.cdb_front.proofs.Exits.{unopened, told_shut, outcome, Shut}
+use Rattle.cdb_front.proofs.Generating.{fills_nothing}
 use Rattle.cdb_front.proofs.RunEnds.{stops_closed}
 use Rattle.cdb_front.proofs.worded_run.cdb_run.Goals as goal
 
@@ -33,3 +34,9 @@ returns-in-Err-Memory-clause-checks g c = λ options is mode.
     checks_nothing g.D.Disk.tells g.D.Disk.state g.D.Disk.clock g.D.Disk.since c.args.disk.now
     (g.O.Output.written c.args.output.now) (g.O.Output.written c.end.new.output)
     (g.met.D.Disk.only_now c.args.disk.now) c.end.result c.end.ensures.ends
+
+pub returns-in-Err-Memory-clause-fills : goal.returns-in-Err-Memory-clause-fills
+returns-in-Err-Memory-clause-fills g c = λ options is mode.
+    fills_nothing g.D.Disk.tells g.D.Disk.state g.D.Disk.clock g.D.Disk.since c.args.disk.now
+    (g.met.D.Disk.only_now c.args.disk.now) options.start options.count (g.O.Output.written c.args.output.now)
+    (g.O.Output.written c.end.new.output) c.end.result c.end.ensures.ends

@@ -1,0 +1,58 @@
+use Rattle.std.proofs.Common.{refl}
+use Rattle.cdb_model.specs.KnownStore.{start_at}
+use Rattle.cdb_model.specs.Stores.{known}
+use Rattle.cdb_front.specs.EngineStays.{origin_of}
+use Rattle.cdb_front.proofs.Generating.{fills_unopened, fills_stopped, fills_all, fills_torn, stopped_says}
+use Rattle.cdb_front.proofs.RunEnds.{says_no_store, unopened_says}
+use Rattle.cdb_front.proofs.Staying.{stays_opened}
+use Rattle.cdb_front.proofs.filled_run.fill_over.Goals as goal
+
+pub returns-in-Err-clause-fills : goal.returns-in-Err-clause-fills
+returns-in-Err-clause-fills g c =
+    fills_unopened g.D.Disk.tells g.D.Disk.state g.D.Disk.clock g.D.Disk.since c.args.disk.now
+    (g.met.D.Disk.only_now c.args.disk.now) c.args.start c.args.count (g.O.Output.written c.args.output.now)
+    (g.O.Output.written c.end.new.output) c.open.new.disk c.open.ensures.moments c.in-Err.error c.unopened.result
+    c.end.result c.unopened.ensures.status c.in-Err.ensures.store c.end.ensures.ends
+
+pub returns-in-Err-clause-no_store : goal.returns-in-Err-clause-no_store
+returns-in-Err-clause-no_store g c =
+    says_no_store g.D.Disk.tells (g.D.Disk.state c.args.disk.now).present c.unopened.result c.end.result
+    c.end.ensures.same
+    (unopened_says Unit g.D.Disk.tells (g.D.Disk.state c.args.disk.now).present c.in-Err.error c.unopened.result
+    c.unopened.ensures.status c.in-Err.ensures.no_store)
+
+pub returns-in-Ok-say_made-clause-fills : goal.returns-in-Ok-say_made-clause-fills
+returns-in-Ok-say_made-clause-fills g c =
+    fills_all g.D.Disk.tells g.D.Disk.state g.D.Disk.clock g.D.Disk.since c.args.disk.now
+    (g.met.D.Disk.only_now c.args.disk.now) c.args.start c.args.count (g.O.Output.written c.args.output.now)
+    (g.O.Output.written c.say_made.new.output) c.populate.new.disk c.in-Ok-populate.made c.in-Ok-say_made.ensures.ok
+    (λ base has. c.in-Ok-populate.ensures.populates base 0
+    (stays_opened g.D.Disk.tells g.D.Disk.clock g.D.Disk.fault_count g.D.Disk.since g.D.Disk.state base
+    c.args.disk.now c.open.new.disk c.in-Ok.engine has (c.in-Ok.ensures.begins has.told base.list base.early has.store)
+    (c.open.ensures.moments has.told base.list base.early has.store) (g.met.D.Disk.only_now c.args.disk.now)))
+
+pub returns-in-Ok-populate-clause-fills : goal.returns-in-Ok-populate-clause-fills
+returns-in-Ok-populate-clause-fills g c =
+    fills_torn g.D.Disk.tells g.D.Disk.state g.D.Disk.clock g.D.Disk.since c.args.disk.now
+    (g.met.D.Disk.only_now c.args.disk.now) c.args.start c.args.count (g.O.Output.written c.args.output.now)
+    (g.O.Output.written c.say_made.new.output) c.populate.new.disk c.in-Ok-populate.made c.in-Err-say_made.ensures.err
+    (λ base has. c.in-Ok-populate.ensures.populates base 0
+    (stays_opened g.D.Disk.tells g.D.Disk.clock g.D.Disk.fault_count g.D.Disk.since g.D.Disk.state base
+    c.args.disk.now c.open.new.disk c.in-Ok.engine has (c.in-Ok.ensures.begins has.told base.list base.early has.store)
+    (c.open.ensures.moments has.told base.list base.early has.store) (g.met.D.Disk.only_now c.args.disk.now)))
+
+pub returns-clause-fills : goal.returns-clause-fills
+returns-clause-fills g c =
+    fills_stopped g.D.Disk.tells g.D.Disk.state g.D.Disk.clock g.D.Disk.since c.args.disk.now
+    (g.met.D.Disk.only_now c.args.disk.now) c.args.start c.args.count (g.O.Output.written c.args.output.now)
+    (g.O.Output.written c.end-in-Err-populate.new.output) c.populate.new.disk c.in-Err-populate.error c.unmade.result
+    c.end-in-Err-populate.result c.unmade.ensures.status
+    (λ base has. let l = c.in-Err-populate.ensures.follows known (origin_of base) (start_at base.list)
+    (stays_opened g.D.Disk.tells g.D.Disk.clock g.D.Disk.fault_count g.D.Disk.since g.D.Disk.state base
+    c.args.disk.now c.open.new.disk c.in-Ok.engine has (c.in-Ok.ensures.begins has.told base.list base.early has.store)
+    (c.open.ensures.moments has.told base.list base.early has.store) (g.met.D.Disk.only_now c.args.disk.now))
+    record { pending = refl; going = refl; halted = refl; sessions = refl } in (l.next, l.step))
+    (λ base has. c.in-Err-populate.ensures.populates base 0
+    (stays_opened g.D.Disk.tells g.D.Disk.clock g.D.Disk.fault_count g.D.Disk.since g.D.Disk.state base
+    c.args.disk.now c.open.new.disk c.in-Ok.engine has (c.in-Ok.ensures.begins has.told base.list base.early has.store)
+    (c.open.ensures.moments has.told base.list base.early has.store) (g.met.D.Disk.only_now c.args.disk.now))) c.end-in-Err-populate.ensures.ends
