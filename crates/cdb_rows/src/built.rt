@@ -79,7 +79,7 @@ fn count_built(
 static FOLDERS: [(u32, &str); 2] = [(1, "V00000001"), (2, "V00000002")];
 
 /// Publications, and how many tiles each of the two versions has.
-static BUILT: [(&[u8], [usize; 2]); 4] = [
+static BUILT: [(&[u8], [usize; 2]); 5] = [
     // One tile of each family at two levels, and a coarser source after it.
     (
         b"inline elev -9 46 7 1/2 1/2 2 2 30 40 10 20\npublish\nstep all\ninline elev -10 46 7 1 1 1 1 99\npublish\nstep all\n",
@@ -99,6 +99,11 @@ static BUILT: [(&[u8], [usize; 2]); 4] = [
     (
         b"inline elev -10 50 7 1 1 1 1 5\npublish\nstep all\ninline mat -10 50 8 1 2 1 1 5\npublish\nstep all\n",
         [0, 1],
+    ),
+    // One post of the finest level, and a coarser one around it.
+    (
+        b"inline elev 23 403726925823/8589934592 68719476735/8589934592 1 1 1 1 7\npublish\nstep all\ninline elev -9 93/2 15/2 1/2 1/2 1 1 8\npublish\nstep all\n",
+        [102, 6],
     ),
 ];
 

@@ -64,57 +64,67 @@ fn a_file_is_a_source(rt: HostRuntime) -> Result<(), Fail> {
 }
 
 /// The worked file with another byte at one place, and the answer.
-static CHANGED: [(usize, u8, &[u8]); 6] = [
+static CHANGED: [(usize, u8, &[u8]); 12] = [
     (2, 0x2b, b"refused input bigtiff\n"),
-    (54, 5, b"refused input compressed\n"),
-    (138, 3, b"refused input float\n"),
+    // The second tag is the first one again.
+    (22, 0, b"refused input order\n"),
+    (12, 5, b"refused input kind\n"),
+    // A tag of tiles in place of the one of the planes.
+    (118, 0x42, b"refused input tiled\n"),
     (70, 0x12, b"refused input absent 273\n"),
-    (198, 0xd7, b"refused input short\n"),
+    (54, 5, b"refused input compressed\n"),
+    (90, 3, b"refused input samples\n"),
+    (138, 3, b"refused input float\n"),
+    (42, 12, b"refused input bits\n"),
     (18, 0, b"refused input size\n"),
+    // Two rows per strip, of which there are two.
+    (102, 2, b"refused input strips\n"),
+    (198, 0xd7, b"refused input short\n"),
 ];
+
+/// How many bytes are left of the worked file, and the answer.
+static CUT: [(usize, &[u8]); 3] = [
+    (7, b"refused input nottiff\n"),
+    (193, b"refused input directory\n"),
+    (217, b"refused input short\n"),
+];
+
+/// The line of a source of four posts.
+const SOURCE: &[u8] = b"source elev -9 46 7 1/2 1/2 -32768 a.tif\n";
+
+/// Whether the line of a source is answered so where its file has these bytes.
+fn is_refused(alloc: Global, file: Vec<u8>, answer: &[u8]) -> Result<bool, Fail> {
+    let (status, output) = answers(alloc, file, 0, SOURCE)?;
+    Ok(status == Status::Done && output.written() == answer)
+}
 
 #[test]
 fn changed_files_are_refused(rt: HostRuntime) -> Result<(), Fail> {
     for (place, byte, answer) in CHANGED.iter() {
         let file = changed(rt.alloc(), *place, *byte)?;
-        let (status, output) = answers(
-            rt.alloc(),
-            file,
-            0,
-            b"source elev -9 46 7 1/2 1/2 -32768 a.tif\n",
-        )?;
-        assert_eq!(rt; status, Status::Done);
-        assert_eq!(rt; output.written(), *answer);
+        assert!(rt; is_refused(rt.alloc(), file, answer)?);
+    }
+    for (length, answer) in CUT.iter() {
+        let mut file = Vec::from_slice(rt.alloc(), LITTLE)?;
+        file.truncate(*length);
+        assert!(rt; is_refused(rt.alloc(), file, answer)?);
     }
     Ok(())
 }
 
-/// A file that ends too early, one that isn't there, and numbers that are out of range, which come
-/// last.
+/// A file that isn't there, and numbers that are out of range, which come last.
 #[test]
 fn orders_with_files_are_refused(rt: HostRuntime) -> Result<(), Fail> {
-    let mut cut = Vec::from_slice(rt.alloc(), LITTLE)?;
-    cut.truncate(217);
-    let (_, output) = answers(
-        rt.alloc(),
-        cut,
-        0,
-        b"source elev 24 46 7 1/2 1/2 -32768 a.tif\nsource elev -9 46 7 1/2 1/2 -32768 b.tif\n",
-    )?;
-    assert_eq!(rt;
-        output.written(),
-        b"refused input short\nrefused absent\n".as_slice()
-    );
     let whole = Vec::from_slice(rt.alloc(), LITTLE)?;
     let (_, output) = answers(
         rt.alloc(),
         whole,
         0,
-        b"source elev 24 46 7 1/2 1/2 -32768 a.tif\nsource elev -9 46 7 1/7 1/2 -32768 a.tif\nsource elev -9 90 7 1/2 1/2 -32768 a.tif\n",
+        b"source elev 24 46 7 1/2 1/2 -32768 b.tif\nsource elev 24 46 7 1/2 1/2 -32768 a.tif\nsource elev -9 46 7 1/7 1/2 -32768 a.tif\nsource elev -9 90 7 1/2 1/2 -32768 a.tif\n",
     )?;
     assert_eq!(rt;
         output.written(),
-        b"refused range\nrefused range\nrefused range\n".as_slice()
+        b"refused absent\nrefused range\nrefused range\nrefused range\n".as_slice()
     );
     Ok(())
 }

@@ -10,6 +10,8 @@ mod failures;
 #[cfg(test)]
 mod files;
 #[cfg(test)]
+mod halted;
+#[cfg(test)]
 mod levels;
 #[cfg(test)]
 mod limits;
