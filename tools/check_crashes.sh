@@ -1,9 +1,10 @@
 #!/usr/bin/env bash
 # Records the file calls of a publication of the program on real folders, and opens the store over every image
 # that a crash may leave at any moment of them, by the file model of docs/FILE_MODEL.md: version 1 before the rename of
-# the head, either at it, version 2 after it, each with all of its tiles. Then each sync is taken out of the record
-# in turn: but for those that are named below, the images must hold faults. The arguments are the program's path and
-# that of a program `crash_images.py`, which records and replays. Needs python3 and strace.
+# the head, either at it, version 2 after it, each with all of its tiles, and the check of the store agrees. Then each
+# sync is taken out of the record in turn: the images must hold faults then, but for a sync of recovery, which is for
+# what an earlier run may have left, and one of a folder that is synced once more before the rename. The arguments are
+# the program's path and that of a program `crash_images.py`, which records and replays. Needs python3 and strace.
 set -u
 . "$(dirname "$0")/built.sh" || exit 2
 [ $# = 2 ] || { echo "usage: check_crashes.sh PROGRAM CRASH_IMAGES" >&2; exit 2; }
@@ -34,11 +35,12 @@ CELLS = [("N46E007", "D001_S001_T001"), ("N46E007", "D002_S001_T001"), ("N46E007
 NAMES = [f"{cell}_{dataset}_LC{level:02d}_U0_R0.tif" for cell, dataset in CELLS for level in (9, 10)]
 ASK = b"versions\nopen\n" + b"".join(f"tile 1 {name}\n".encode() for name in NAMES)
 
-# judges an image: the store opens at a version, and answers each tile as it did when it was whole
+# judges an image: the store opens at a version, answers each tile as it did when it was whole, and agrees
 JUDGE = f"""import subprocess, sys
 done = subprocess.run([{program!r}, "--background", "0"], input={ASK!r}, capture_output=True)
+agrees = subprocess.run([{program!r}, "--mode", "check"], capture_output=True).returncode == 0
 for version in (1, 2):
-    if done.stdout == open({folder!r} + "/answers%d" % version, "rb").read() and done.returncode == 0:
+    if agrees and done.returncode == 0 and done.stdout == open({folder!r} + "/answers%d" % version, "rb").read():
         print("version", version)
         sys.exit(0)
 print("fault")
@@ -48,6 +50,11 @@ sys.exit(1)
 
 def run(script, place="."):
     return subprocess.run([program, "--background", "0"], cwd=place, input=script, capture_output=True, check=True).stdout
+
+
+def answers(output):
+    """What the judge said from moment to moment."""
+    return [line.split(": ", 2)[-1] for line in output.strip().split("\n")[:-1]]
 
 
 def replayed(number, lines):
@@ -80,8 +87,7 @@ open("answers2", "wb").write(run(ASK))
 lines = open("log").readlines()
 output, faults = replayed("-whole", lines)
 print(output.strip())
-moments = [line.split(": ", 2)[-1] for line in output.strip().split("\n")[:-1]]
-wrong = faults != 0 or moments != ["version 1", "version 1  OR  0: version 2", "version 2"]
+wrong = faults != 0 or answers(output) != ["version 1", "version 1  OR  0: version 2", "version 2"]
 
 # the syncs, by what they sync: the folders of the process, followed through its opens
 syncs, open_paths = [], {}
@@ -93,14 +99,17 @@ for number, line in enumerate(lines):
     if synced:
         syncs.append((number, open_paths.get(synced[1], "?")))
 
-with concurrent.futures.ThreadPoolExecutor(2) as pool:
-    found = list(pool.map(lambda sync: replayed(sync[0], lines[: sync[0]] + lines[sync[0] + 1 :])[1], syncs))
+with concurrent.futures.ThreadPoolExecutor(3) as pool:
+    found = list(pool.map(lambda sync: replayed(sync[0], lines[: sync[0]] + lines[sync[0] + 1 :]), syncs))
 begun = next(number for number, line in enumerate(lines) if "mkdir" in line and line.rstrip().endswith("= 0"))
-for (number, path), faults in zip(syncs, found):
-    # recovery's sync of the store's folder, and that of the folder above, are for what an earlier run may have left
-    needed = number > begun
-    print(f"without the sync of {path}: {faults} images with a fault" + ("" if needed else " (not needed over a clean store)"))
-    wrong = wrong or (needed and faults == 0)
+renamed = next(number for number, line in enumerate(lines) if "rename(" in line)
+for k, ((number, path), (output, faults)) in enumerate(zip(syncs, found)):
+    again = number < renamed and any(other == path and later < renamed for later, other in syncs[k + 1 :])
+    # without the last sync version 1 may come back after version 2 was acknowledged
+    lost = answers(output)[-1] != "version 2"
+    why = "recovery" if number < begun else "synced again" if again else ""
+    print(f"without the sync of {path}: {faults} images with a fault{', an acknowledged version lost' if lost else ''}{f' ({why})' if why else ''}")
+    wrong = wrong or not (faults or lost or why)
 print("0 failures" if not wrong else "FAILED")
 sys.exit(1 if wrong else 0)
 PYTHON
