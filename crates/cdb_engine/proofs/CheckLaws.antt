@@ -1,5 +1,5 @@
 -- The check of a store, by what an engine tracks.
-use Rattle.std.proofs.Common.{◌≡◌, ℕ, List, [], length, Option, None, Some, IfOk, Result, Ok, Err, refl, sym, ◌∙◌, subst, arith}
+use Rattle.std.proofs.Common.{◌≡◌, ℕ, List, [], Option, None, Some, IfOk, Result, Ok, Err, refl, sym, ◌∙◌, subst, arith}
 use Rattle.cdb_model.specs.KnownStore.{State, Going}
 use Rattle.cdb_model.specs.Maps.{FileMap}
 use Rattle.cdb_model.specs.Publications.{Publication}

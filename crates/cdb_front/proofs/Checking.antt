@@ -1,5 +1,5 @@
 -- How a run of mode check ends.
-use Rattle.std.proofs.Common.{◌≡◌, ◌≤◌, ◌⊎◌, inl, inr, ℕ, List, [], ◌∷◌, length, Option, None, Some, IfOk, Result, Ok, Err, refl, sym, ◌∙◌, ap, subst, arith}
+use Rattle.std.proofs.Common.{◌≡◌, ◌⊎◌, inl, inr, ℕ, List, ◌∷◌, length, Option, None, Some, Result, Ok, Err, refl, sym, subst, arith}
 use Rattle.std.specs.Io.KnownBytes.{Appends}
 use Rattle.cdb_model.specs.Causes.{Rose}
 use Rattle.cdb_model.specs.Images.{Base, StandsForOne}
@@ -10,7 +10,7 @@ use Rattle.cdb_model.specs.Stands.{Stands}
 use Rattle.cdb_crash.specs.Crash.{IsWhole}
 use Rattle.cdb_files.specs.Disk as disk
 use Rattle.cdb_files.specs.Disk.{IsImage}
-use Rattle.cdb_files.specs.Moments.{AddsOnly, Rests}
+use Rattle.cdb_files.specs.Moments.{AddsOnly}
 use Rattle.cdb_chain.specs.declared.open_error.OpenError.{OpenError}
 use Rattle.cdb_chain.specs.declared.open_error.OpenError.TheVariants as refused
 use Rattle.cdb_manifest.specs.declared.record_.Record.{Record}

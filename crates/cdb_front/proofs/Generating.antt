@@ -1,5 +1,5 @@
 -- How a run of mode generate ends.
-use Rattle.std.proofs.Common.{◌≡◌, ◌≤◌, ◌⊎◌, inl, inr, ℕ, ℤ, List, [], ◌∷◌, length, Option, None, Some, IfOk, IfErr, Result, Ok, Err, refl, sym, ◌∙◌, ap, subst, arith}
+use Rattle.std.proofs.Common.{◌≡◌, ◌⊎◌, inl, inr, ℕ, List, [], ◌∷◌, Option, Ok, Err, refl, sym, ap, subst, arith}
 use Rattle.std.specs.Io.KnownBytes.{Appends}
 use Rattle.cdb_model.specs.Causes.{Rose}
 use Rattle.cdb_model.specs.Images.{Base, StandsForOne}
@@ -14,18 +14,16 @@ use Rattle.cdb_chain.specs.declared.open_error.OpenError.{OpenError}
 use Rattle.cdb_chain.specs.declared.open_error.OpenError.TheVariants as refused
 use Rattle.cdb_engine.specs.Store.{IsStore, IsFound}
 use Rattle.cdb_generate.specs.Generated.{Generates, summary_text}
-use Rattle.cdb_populate.specs.Filling.{PopulatesIn, StopsAfter, Populates, IsFilled, IsUndamaged}
+use Rattle.cdb_populate.specs.Filling.{PopulatesIn, StopsAfter, Populates, IsUndamaged}
 use Rattle.cdb_populate.specs.declared.errors.PopulateError.{PopulateError}
 use Rattle.cdb_populate.specs.declared.errors.PopulateError.TheVariants as populate
 use Rattle.cdb_populate.specs.declared.filling.Made.{Made}
-use Rattle.cdb_front.specs.Completeness.{Still}
 use Rattle.cdb_front.specs.Devices.{WritesPart}
 use Rattle.cdb_front.specs.EntryStore.{HasStore}
-use Rattle.cdb_front.specs.Generating.{SaysMade, SaysLess, EndsMade, IsFull, Fills, CompletesFillOf, made_status, error_of}
+use Rattle.cdb_front.specs.Generating.{SaysMade, SaysLess, EndsMade, Fills, CompletesFillOf, made_status}
 use Rattle.cdb_front.specs.RunOutcome.{EndsWith, is_whole, is_part, status_of, SaysNoStore}
 use Rattle.cdb_front.specs.StatusCodes.{status_line}
 use Rattle.cdb_front.specs.declared.exit_status.Limit.{Limit}
-use Rattle.cdb_front.specs.declared.exit_status.Limit.TheVariants.{Entries, Versions}
 use Rattle.cdb_front.specs.declared.exit_status.Status.{Status}
 use Rattle.cdb_front.specs.declared.exit_status.Status.TheVariants.{Done, Memory, Usage, InputFault, OutputFault, StoreFault, NotAStore, TooLong, Differs, Refused, Damaged}
 use Rattle.cdb_front.proofs.Checking.{no_rise}

@@ -2,7 +2,7 @@ use Rattle.std.proofs.Common.{refl}
 use Rattle.cdb_model.specs.KnownStore.{start_at}
 use Rattle.cdb_model.specs.Stores.{known}
 use Rattle.cdb_front.specs.EngineStays.{origin_of}
-use Rattle.cdb_front.proofs.Generating.{fills_unopened, fills_stopped, fills_all, fills_torn, stopped_says}
+use Rattle.cdb_front.proofs.Generating.{fills_unopened, fills_stopped, fills_all, fills_torn}
 use Rattle.cdb_front.proofs.RunEnds.{says_no_store, unopened_says}
 use Rattle.cdb_front.proofs.Staying.{stays_opened}
 use Rattle.cdb_front.proofs.filled_run.fill_over.Goals as goal
