@@ -9,12 +9,12 @@ use std::test::Fail;
 
 /// A file of a store, of which the bytes from one place to another are replaced.
 #[derive(Drop)]
-struct Change {
-    file: &'static str,
-    from: usize,
-    to: usize,
-    bytes: &'static [u8],
-    written: &'static [u8],
+pub struct Change {
+    pub file: &'static str,
+    pub from: usize,
+    pub to: usize,
+    pub bytes: &'static [u8],
+    pub written: &'static [u8],
 }
 
 const HEAD_FILE: &str = "HEAD";
@@ -23,7 +23,7 @@ const RECORD: &str = "V00000001/Metadata/record";
 
 /// Changes of a store of one source of one post after which it isn't a store, and what is written then: the
 /// version and the place at which its record, or the file that names the newest version, is off.
-static CHANGES: [Change; 11] = [
+pub static CHANGES: [Change; 11] = [
     Change {
         file: HEAD_FILE,
         from: 0,
@@ -112,7 +112,7 @@ static CHANGES: [Change; 11] = [
 ];
 
 /// A disk with a store of one source of one post.
-fn small_store(alloc: Global) -> Result<MemDisk, Fail> {
+pub fn small_store(alloc: Global) -> Result<MemDisk, Fail> {
     let mut disk = new_disk(alloc, 0)?;
     run(
         alloc,
@@ -133,7 +133,7 @@ fn replaced(alloc: Global, old: &[u8], change: &Change) -> Result<Vec<u8>, Fail>
 }
 
 /// Makes a change in the store of a disk.
-fn make_change(alloc: Global, disk: &mut MemDisk, change: &Change) -> Result<(), Fail> {
+pub fn make_change(alloc: Global, disk: &mut MemDisk, change: &Change) -> Result<(), Fail> {
     let file = path(change.file)?;
     let old = contents(alloc, disk, &file)?.ok_or("the file isn't there")?;
     let bytes = replaced(alloc, old.as_slice(), change)?;

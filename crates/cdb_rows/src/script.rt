@@ -90,6 +90,15 @@ pub fn run_with(
     Ok((status, output))
 }
 
+/// The words of a run that checks the files of its store.
+const CHECK: [&str; 2] = ["--mode", "check"];
+
+/// Checks the files of the store of a disk.
+pub fn check(alloc: Global, disk: &mut MemDisk) -> Result<(Status, MemOutput), Fail> {
+    let mut shelf = MemShelf::new(BTreeMap::new(alloc), Vec::new(alloc));
+    run_with(alloc, &CHECK, disk, &mut shelf, b"")
+}
+
 /// Whether a run over the disk ends well and writes these answers.
 pub fn answers(
     alloc: Global,

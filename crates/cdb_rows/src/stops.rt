@@ -1,6 +1,6 @@
 //! Publications that a stop cuts off at any call of the disk, and stores that are opened afterwards.
 
-use crate::script::{HEAD, is_joined, new_disk, run};
+use crate::script::{HEAD, check, is_joined, new_disk, run};
 use cdb_files::{Disk, Path};
 use cdb_front::{MemOutput, Status};
 use cdb_memfiles::{Fuse, MemDisk, Pick};
@@ -27,8 +27,25 @@ fn first_store(alloc: Global) -> Result<MemDisk, Fail> {
     Ok(disk)
 }
 
-/// The version at which the store opens, if it is 1 or 2 and its tile has the value of that version.
+/// The version at which the store opens, if all its files agree, it is 1 or 2, and its tile has the value of
+/// that version.
 fn opens_at(alloc: Global, disk: &mut MemDisk) -> Result<Option<u32>, Fail> {
+    let version = served_at(alloc, disk)?;
+    let agreed = match version {
+        Some(1) => b"agrees 1 5\n".as_slice(),
+        Some(_) => b"agrees 2 10\n".as_slice(),
+        None => return Ok(None),
+    };
+    let (_, output) = check(alloc, disk)?;
+    Ok(if output.written() == agreed {
+        version
+    } else {
+        None
+    })
+}
+
+/// The version at which the store opens, if it is 1 or 2 and its tile has the value of that version.
+fn served_at(alloc: Global, disk: &mut MemDisk) -> Result<Option<u32>, Fail> {
     let (_, output) = run(alloc, disk, ASK)?;
     let first: [&[u8]; 3] = [b"versions 1\nsession 1 1\ntile 188\n", &HEAD, &[0xF4, 0x01]];
     let second: [&[u8]; 3] = [b"versions 2\nsession 1 2\ntile 188\n", &HEAD, &[0x58, 0x02]];
