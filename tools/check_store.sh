@@ -210,7 +210,7 @@ def opens_at(where, what, least, most):
         fail(f"{what}: opened with status {code}, {out!r}")
         return 0
     code, out = run(where, b"", ("--mode", "check"))
-    if code != 2 and (code != 0 or out != b"agrees %d %d\n" % (int(version[1]), 5 * int(version[1]))):
+    if code != 0 or out != b"agrees %d %d\n" % (int(version[1]), 5 * int(version[1])):
         fail(f"{what}: checked with status {code}, {out!r}")
     return int(version[1])
 
