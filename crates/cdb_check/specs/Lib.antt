@@ -1,4 +1,5 @@
 pub mod Expected
+pub mod Kept
 pub mod Laws
 pub mod Outcome
 pub mod Rooms

@@ -1,23 +1,26 @@
 //! One file after another against what it must be.
-ghost use Rattle.std.specs.Prelude.{◌≡◌, ◌↔◌, ◌*◌, ◌≤◌, Some, IsTrue, IfOk, IfErr, List, length};
+ghost use Rattle.std.specs.Prelude.{◌≡◌, ◌↔◌, ◌*◌, ◌≤◌, Some, IsTrue, IfOk, IfErr, OnOk, List, length};
 ghost use Rattle.cdb_grid.specs.Tiles.{tile_side};
 ghost use Rattle.cdb_model.specs.Names as names;
 ghost use Rattle.cdb_model.specs.TileFile.{tile_bytes};
+ghost use Rattle.cdb_cut.specs.OneTile.{IsFrameOf};
 ghost use Rattle.cdb_tiff_write.specs.Rasters.{tile_size};
 ghost use Rattle.cdb_manifest.specs.Entries.{Ascending};
 ghost use Rattle.cdb_check.specs.Expected.{SourceFile, source_file, a_record, a_tile, IsAsExpected, MayTouch, SpellAll};
+ghost use Rattle.cdb_check.specs.Kept.{AreKept};
 ghost use Rattle.cdb_check.specs.Outcome.{Judges, GivesFile, GivesSource, Looks, IsCaused, IsAbout, IsAt, Unread};
 ghost use Rattle.cdb_check.specs.Rooms.{IsReady};
 ghost use Rattle.cdb_check.specs.declared.outcome.CheckError.TheVariants as CheckError;
 
 use crate::compare::{has_bytes, same_head, same_tiles};
+use crate::kept::Kept;
+use crate::making::make_tile;
 use crate::outcome::CheckError;
 use crate::room::Room;
 use cdb_files::{Disk, Path, ReadSize, read_whole};
 use cdb_grid::{Tile, side};
 use cdb_manifest::{Record, encode};
 use cdb_names::{record_path, source_path, write_path};
-use cdb_scratch::build;
 use cdb_source::{DecodeError, Source, SourceHead, decode};
 use cdb_tiff_write::{put_file, tile_size};
 use cdb_touch::{load, touched};
@@ -165,23 +168,34 @@ pub(crate) fn check_source<D: Disk>(
     }
 }
 
-/// Makes the file of a tile from sources, oldest first.
-fn make_file(sources: &[Source], tile: &Tile, frame: &mut [i16], bytes: &mut [u8])
+/// Makes the values and the file of a tile from sources, oldest first.
+fn make_file(
+    sources: &[Source],
+    kept: &[Kept],
+    tile: &Tile,
+    spare: &mut [i16],
+    frame: &mut [i16],
+    bytes: &mut [u8],
+)
+    requires kept { AreKept sources.now kept.now }
     requires frame { length frame.old ≡ tile_side tile.now * tile_side tile.now }
     requires bytes { length bytes.old ≡ tile_size tile.now }
-    ensures frame { length frame.new ≡ length frame.old }
+    ensures made { IsFrameOf sources.now tile.now frame.new }
     ensures bytes { bytes.new ≡ tile_bytes sources.now tile.now }
 {
-    build(sources, tile, frame);
+    make_tile(sources, kept, tile, spare, frame);
     put_file(tile, frame, bytes);
 }
 
-/// Looks at the file of a tile of a version. The tile is built in the first numbers of `frame` and
-/// `bytes`, and the file is read into the first bytes of `found`.
+/// Looks at the file of a tile of a version, and keeps the tile for coarser ones. It is made in the first
+/// numbers of `frame` and `bytes`, and the file is read into the first bytes of `found`.
 fn check_built<D: Disk>(
+    alloc: Global,
     version: u32,
     tile: &Tile,
     sources: &[Source],
+    kept: &mut Vec<Kept>,
+    spare: &mut [i16],
     frame: &mut [i16],
     bytes: &mut [u8],
     found: &mut [u8],
@@ -189,12 +203,14 @@ fn check_built<D: Disk>(
 ) -> Result<(), CheckError>
     requires version_least { 1 ≤ version }
     requires version_most { version ≤ 4096 }
+    requires kept { AreKept sources.now kept.old.items }
     requires frame { 1048576 ≤ length frame.old }
     requires bytes { 2097338 ≤ length bytes.old }
     requires found { 2097338 ≤ length found.old }
     ensures judged { D.tells → (files : List SourceFile) → SpellAll (D.state disk.old).present files sources.now
         → Judges (IsAsExpected (D.state disk.old).present (a_tile files version tile.now))
         (names.path version tile.now) result }
+    ensures kept { OnOk result (AreKept sources.now kept.new.items) }
     ensures frame { length frame.new ≡ length frame.old }
     ensures bytes { length bytes.new ≡ length bytes.old }
     ensures found { length found.new ≡ length found.old }
@@ -205,32 +221,43 @@ fn check_built<D: Disk>(
     let side = side(tile.level) as usize;
     let frame = &mut frame[..side * side];
     let bytes = &mut bytes[..tile_size(tile)];
-    make_file(sources, tile, frame, bytes);
+    make_file(sources, kept.as_slice(), tile, spare, frame, bytes);
+    match Kept::keep(alloc, kept, tile, frame) {
+        Ok(()) => (),
+        Err(_) => return Err(CheckError::Memory),
+    }
     look_at(disk, &path, bytes, found)
 }
 
 /// Looks at the file of a tile of a version.
 pub(crate) fn check_tile<D: Disk>(
+    alloc: Global,
     version: u32,
     tile: &Tile,
     sources: &[Source],
+    kept: &mut Vec<Kept>,
     room: &mut Room,
     disk: &mut D,
 ) -> Result<(), CheckError>
     requires version_least { 1 ≤ version }
     requires version_most { version ≤ 4096 }
+    requires kept { AreKept sources.now kept.old.items }
     requires ready { IsReady room.old }
     ensures judged { D.tells → (files : List SourceFile) → SpellAll (D.state disk.old).present files sources.now
         → Judges (IsAsExpected (D.state disk.old).present (a_tile files version tile.now))
         (names.path version tile.now) result }
+    ensures kept { OnOk result (AreKept sources.now kept.new.items) }
     ensures ready { IsReady room.new }
     ensures looks { Looks D.clock D.since D.state D.fault_count disk.old disk.new }
     ensures cause { IsCaused (D.fault_count disk.old) (D.fault_count disk.new) result }
 {
     check_built(
+        alloc,
         version,
         tile,
         sources,
+        kept,
+        room.spare.as_mut_slice(),
         room.frame.as_mut_slice(),
         room.bytes.as_mut_slice(),
         room.found.as_mut_slice(),

@@ -4,8 +4,13 @@
 
 mod compare;
 mod files;
+mod kept;
 pub mod laws;
+#[cfg(test)]
+mod made_tests;
+mod making;
 mod outcome;
+mod painting;
 mod room;
 #[cfg(test)]
 mod tests;

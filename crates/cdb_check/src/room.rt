@@ -1,3 +1,5 @@
+ghost use Rattle.std.specs.Prelude.{◌≤◌};
+
 use std::alloc::{AllocError, Global};
 
 /// The memory in which tiles are built and files are read: enough for the largest tile.
@@ -5,25 +7,37 @@ use std::alloc::{AllocError, Global};
 pub struct Room {
     /// The values of a tile, the south row first.
     pub(crate) frame: Vec<i16>,
+    /// The values of finer tiles under it, one level after the other.
+    pub(crate) spare: Vec<i16>,
     /// The bytes that a tile's file must have.
     pub(crate) bytes: Vec<u8>,
     /// The bytes that a file has.
     pub(crate) found: Vec<u8>,
 }
 
+/// The numbers of so many of the largest tiles.
+fn spare_for(alloc: Global, finer: usize) -> Result<Vec<i16>, AllocError>
+    requires { finer ≤ 27 }
+{
+    vec![in alloc; 0; finer * 1_048_576]
+}
+
 impl Room {
     ghost use Rattle.std.specs.Prelude.{IfOk};
     ghost use Rattle.cdb_check.specs.Rooms.{IsReady};
 
-    /// Takes the memory.
-    pub(crate) fn new(alloc: Global) -> Result<Room, AllocError>
+    /// Takes the memory, with room for so many finer tiles.
+    pub(crate) fn new(alloc: Global, finer: usize) -> Result<Room, AllocError>
+        requires { finer ≤ 27 }
         ensures { IfOk result IsReady }
     {
         let frame = vec![in alloc; 0; 1_048_576]?;
+        let spare = spare_for(alloc, finer)?;
         let bytes = vec![in alloc; 0; 2_097_338]?;
         let found = vec![in alloc; 0; 2_097_338]?;
         Ok(Room {
             frame,
+            spare,
             bytes,
             found,
         })

@@ -10,9 +10,13 @@ use crate::room::Room;
 use cdb_chain::Chain;
 use cdb_files::Disk;
 use cdb_grid::Tile;
+use cdb_grid::units::height;
 use cdb_manifest::Record;
-use cdb_source::Source;
+use cdb_source::{Source, SourceHead};
 use std::alloc::Global;
+
+/// The height of level 0.
+const LEVEL_0: u32 = 24;
 
 /// Looks at the source files of a version, and puts their sources behind those of earlier ones.
 fn check_sources<D: Disk>(
@@ -43,7 +47,9 @@ fn check_sources<D: Disk>(
 }
 
 /// Looks at the tiles of a version.
+#[tactic(auto, using(crate::proofs::KeptTiles::kept_none))]
 fn check_tiles<D: Disk>(
+    alloc: Global,
     version: u32,
     tiles: &[Tile],
     sources: &[Source],
@@ -59,8 +65,9 @@ fn check_tiles<D: Disk>(
     ensures looks { Looks D.clock D.since D.state D.fault_count disk.old disk.new }
     ensures cause { IsCaused (D.fault_count disk.old) (D.fault_count disk.new) result }
 {
+    let mut kept = Vec::new(alloc);
     for k in 0..tiles.len() {
-        match check_tile(version, &tiles[k], sources, room, disk) {
+        match check_tile(alloc, version, &tiles[k], sources, &mut kept, room, disk) {
             Ok(()) => (),
             Err(error) => return Err(error),
         }
@@ -97,6 +104,7 @@ fn check_version<D: Disk>(
         Err(error) => return Err(error),
     }
     check_tiles(
+        alloc,
         record.version,
         record.tiles.as_slice(),
         sources.as_slice(),
@@ -115,6 +123,29 @@ fn file_count(record: &Record) -> u32
     1 + record.heads.as_slice().len() as u32 + record.tiles.as_slice().len() as u32
 }
 
+/// The least height of levels of heads, or that of level 0.
+fn least_height(heads: &[SourceHead]) -> u32 {
+    let mut least: u32 = LEVEL_0;
+    for head in heads {
+        least = least.min(height(head.level));
+    }
+    least
+}
+
+/// How many finer tiles are made at a time: one for each level from 0 to the finest of all sources, one for
+/// all coarser levels together, and one that is only asked for.
+fn finer_tiles(chain: &Chain) -> usize
+    ensures { result ≤ 27 }
+{
+    let mut least: u32 = LEVEL_0;
+    for before in 0..chain.newest() {
+        if let Some(record) = chain.record_at(before + 1) {
+            least = least.min(least_height(record.heads.as_slice()));
+        }
+    }
+    (LEVEL_0 + 3).saturating_sub(least) as usize
+}
+
 /// Whether all files of a store are what its records and source files give: each record, source file
 /// and tile, by version, and in a version the record first, then the sources by number, then the tiles
 /// in their stated order. Other files aren't looked for. It writes nothing.
@@ -131,7 +162,7 @@ pub fn check<D: Disk>(alloc: Global, chain: &Chain, disk: &mut D) -> Result<Agre
     ensures looks { Looks D.clock D.since D.state D.fault_count disk.old disk.new }
     ensures cause { IsCaused (D.fault_count disk.old) (D.fault_count disk.new) result }
 {
-    let Ok(mut room) = Room::new(alloc) else {
+    let Ok(mut room) = Room::new(alloc, finer_tiles(chain)) else {
         return Err(CheckError::Memory);
     };
     let mut sources = Vec::new(alloc);

@@ -26,6 +26,7 @@ loop-k-preserved g c = record {
       c.args.tiles.now c.loop-k.k c.index-tiles-k.result
       (omega (arith, c.loop-k-test.true)) c.index-tiles-k.is (c.loop-k.invariant.met told files spelled)
       (c.in-Ok.ensures.judged told files here);
+  kept = c.in-Ok.ensures.kept;
   ready = c.check_tile.ensures.ready;
   looks = looks_on g.D.Disk.clock g.D.Disk.since g.D.Disk.state g.D.Disk.fault_count c.args.disk.now c.loop-k.disk
       c.check_tile.new.disk c.loop-k.invariant.looks c.check_tile.ensures.looks;
