@@ -44,4 +44,5 @@ pub record IsRefined (child parent : Tile) (row col : ℕ) : Type 0 where
   pub corner : (r c : ℕ) → r < tile_side child / 2 → c < tile_side child / 2 →
       element_corner child (2 * r) (2 * c) ≡ element_corner parent (row + r) (col + c)
   pub cells : (r c i j : ℕ) → r < tile_side child / 2 → c < tile_side child / 2 → i < 2 → j < 2 →
-      element_corner child (2 * r + i) (2 * c + j) ≡ beside (tile_height child) (element_corner parent (row + r) (col + c)) i j
+      element_corner child (2 * r + i) (2 * c + j) ≡
+      beside (tile_height child) (element_corner parent (row + r) (col + c)) i j

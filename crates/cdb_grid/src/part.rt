@@ -98,7 +98,8 @@ pub fn fold_four<F: FourRule>(
     requires square { length frame.old ≡ frame_side * frame_side }
     requires row_fits { spot.row + child_side / 2 ≤ frame_side }
     requires col_fits { spot.col + child_side / 2 ≤ frame_side }
-    ensures { IsPartChanged (four_under F.of_four child.now child_side) spot.row spot.col (child_side / 2) (child_side / 2) frame_side frame.old frame.new }
+    ensures { IsPartChanged (four_under F.of_four child.now child_side) spot.row spot.col (child_side / 2)
+        (child_side / 2) frame_side frame.old frame.new }
 {
     let half = child_side as usize / 2;
     let finer = Finer {

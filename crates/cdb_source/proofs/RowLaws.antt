@@ -1,23 +1,34 @@
 -- Rows of numbers, the posts that they become, and the posts of a maker.
-use Rattle.std.proofs.Common.{◌≡◌, ℕ, ◌+◌, ◌-◌, ◌*◌, ◌<◌, ◌≤◌, ℤ, pos, List, [], ◌∷◌, ◌++◌, length, take, drop, map, get_or, set, All, IsTrue, ◌↔◌, Bool, refl, sym, ap, ◌∙◌, arith, to_z, of_z, replicate}
-use Rattle.std.proofs.lemmas.Int.{to_z-of_z, ints}
-use Rattle.std.proofs.lemmas.List.{take_more, take_more_set, take_all, map-append, take_at}
-use Rattle.std.proofs.lemmas.List.Elements.{All-more, All-push, All-replicate}
-use mir.Syntax.{w32}
-use mir.Val.{SFits}
+use Rattle.std.proofs.Common.{◌≡◌, ℕ, ◌+◌, ◌-◌, ◌*◌, ◌<◌, ◌≤◌, ℤ, pos, List, [], ◌∷◌, ◌++◌, length, take, drop, map, get_or, set, All, IsTrue, Decides, ◌≤ℤ◌, ◌↔◌, ◌⊎◌, inl, inr, ⊎_elim, Bool, ◌&&◌, refl, sym, ap, ◌∙◌, arith, replicate}
+use Rattle.std.proofs.lemmas.Int.{ints}
+use Rattle.std.proofs.lemmas.List.{take_more, take_more_set, take_all, take-take, get_or-take, map-append, take_at}
+use Rattle.std.proofs.lemmas.List.Elements.{All-more, All-push, All-replicate, All-take, All-get_or}
+use Rattle.std.proofs.lemmas.Bool.Decides.{Decides-and, Decides-like}
+use Rattle.std.proofs.lemmas.Grind.{common_steps}
 use Rattle.cdb_source.specs.declared.kind.Kind.{Kind}
 use Rattle.cdb_source.specs.declared.kind.Kind.TheVariants.{Elevation, Material}
-use Rattle.cdb_source.specs.Posts.{IsAllowed, IsPost, post_of, none_of}
+use Rattle.cdb_source.specs.Posts.{IsAllowed, IsPost, post_of, none_of, least_of, greatest_of}
 
--- one more number that the row may have
-pub allowed_more : (kind : Kind) (v : ℤ) (row : List ℤ) (i : ℕ) → i < length row → SFits w32 (get_or row i (pos 0)) → All (IsAllowed kind v) (take i row) → IsAllowed kind v (to_z w32 (of_z w32 (get_or row i (pos 0)))) → All (IsAllowed kind v) (take (i + 1) row)
-allowed_more kind v row i h fits all here =
-    let same = to_z-of_z w32 (get_or row i (pos 0)) fits in
-    All-more (IsAllowed kind v) row i (pos 0) h all (rw same at here)
+-- one more number of a row: the flag of those before and the test of this one
+pub allowed_more : (P : ℤ → Type 0) (row : List ℤ) (i : ℕ) (all one : Bool) → i < length row → Decides all (All P (take i row)) → Decides one (P (get_or row i (pos 0))) → Decides (all && one) (All P (take (i + 1) row))
+allowed_more P row i all one lt before here = Decides-like (all && one) (λ h. All-more P row i (pos 0) lt h.0 h.1) split (Decides-and all one before here)
+  where
+    split : All P (take (i + 1) row) → All P (take i row) × P (get_or row i (pos 0))
+    split h =
+        let long : i < length (take (i + 1) row) = grind (arith, common_steps) in
+        let first = All-take P i (take (i + 1) row) h in
+        let last = All-get_or P (take (i + 1) row) i (pos 0) long h in
+        (rw (take-take i (i + 1) row (omega arith)) at first, rw (get_or-take (i + 1) row i (pos 0) (omega arith)) at last)
 
--- what was tested of the numbers below i, with i past the end, holds of all
-pub allowed_all : (kind : Kind) (v w : ℤ) (row : List ℤ) (i : ℕ) → w ≡ v → length row ≤ i → All (IsAllowed kind w) (take i row) → All (IsAllowed kind v) row
-allowed_all kind v w row i e h all = let whole = take_all i row h in rw (← e) (rw whole at all)
+-- the flag over all numbers is the answer
+pub allowed_all : (P : ℤ → Type 0) (row : List ℤ) (i : ℕ) (all : Bool) → length row ≤ i → Decides all (All P (take i row)) → Decides all (All P row)
+allowed_all P row i all le d = rw (take_all i row le) at d
+
+-- the test by the limits of a kind
+pub by_limits : (kind : Kind) (v least greatest number : ℤ) (t : Bool) → least ≡ least_of kind → greatest ≡ greatest_of kind
+    → Decides t ((number ≡ v) ⊎ ((least ≤ℤ number) × (number ≤ℤ greatest))) → Decides t (IsAllowed kind v number)
+by_limits kind v least greatest number t l g d =
+    Decides-like t (⊎_elim inl (λ h. inr (record { least = rw (← l) h.0; greatest = rw (← g) h.1 }))) (⊎_elim inl (λ h. inr (rw l h.least, rw g h.greatest))) d
 
 -- one more number becomes one more post
 pub posts_more : (f : ℤ → ℤ) (part row : List ℤ) (i : ℕ) (v : ℤ) → i < length part → i < length row → take i part ≡ map f (take i row) → v ≡ f (get_or row i (pos 0)) → take (i + 1) (set part i v) ≡ map f (take (i + 1) row)

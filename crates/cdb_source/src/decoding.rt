@@ -27,7 +27,8 @@ fn begins_right(bytes: &[u8]) -> bool
 }
 
 fn kind_of(number: u8) -> Option<Kind>
-    ensures { MatchOption result ((kind : kinds.Kind) → number ≡ kind_number kind → ⊥) (λ kind. number ≡ kind_number kind) }
+    ensures { MatchOption result ((kind : kinds.Kind) → number ≡ kind_number kind → ⊥)
+        (λ kind. number ≡ kind_number kind) }
 {
     match number {
         1 => Some(Kind::Elevation),
@@ -61,7 +62,8 @@ fn units_at(bytes: &[u8; 52], at: usize) -> i64
 
 fn arc_at(bytes: &[u8; 52], at: usize) -> Option<Arc>
     requires { at + 8 ≤ 52 }
-    ensures { MatchOption result ((arc : arcs.Arc) → units_from bytes.now at ≡ arc.units → ⊥) (λ arc. units_from bytes.now at ≡ arc.units) }
+    ensures { MatchOption result ((arc : arcs.Arc) → units_from bytes.now at ≡ arc.units → ⊥)
+        (λ arc. units_from bytes.now at ≡ arc.units) }
 {
     let units = units_at(bytes, at);
     if units < -FULL_CIRCLE || units > FULL_CIRCLE {
@@ -74,7 +76,8 @@ fn arc_at(bytes: &[u8; 52], at: usize) -> Option<Arc>
 const FULL_CIRCLE: i64 = 360 * DEGREE as i64;
 
 fn head_of(bytes: &[u8; 52]) -> Option<SourceHead>
-    ensures { MatchOption result ((head : heads.SourceHead) → HasHead bytes.now head → ⊥) (λ head. HasHead bytes.now head) }
+    ensures { MatchOption result ((head : heads.SourceHead) → HasHead bytes.now head → ⊥)
+        (λ head. HasHead bytes.now head) }
 {
     if !begins_right(bytes) || bytes[10] != 0 || bytes[11] != 0 {
         return None;
@@ -138,7 +141,8 @@ fn post_at(text: &[u8], k: usize) -> i16
 /// kind doesn't allow.
 fn read_posts(kind: Kind, text: &[u8], posts: &mut [i16]) -> Option<usize>
     requires { length text.now ≡ 2 * length posts.old }
-    ensures { MatchOption result (ReadsPosts kind text.now posts.new) (λ k. (k < length posts.old) × IsBadPost kind text.now k) }
+    ensures { MatchOption result (ReadsPosts kind text.now posts.new)
+        (λ k. (k < length posts.old) × IsBadPost kind text.now k) }
 {
     for k in 0..posts.len() {
         let post = post_at(text, k);

@@ -65,7 +65,8 @@ pub fn encode_row(source: &Source, r: u32, to: &mut [u8])
     requires row { r < source.now.head.rows }
     requires room { length to.old ≡ 2 * source.now.head.cols }
     ensures posts { to.new ≡ texts.posts_text (texts.row_of_posts source.now r) }
-    ensures part { to.new ≡ take (2 * source.now.head.cols) (drop (52 + 2 * (r * source.now.head.cols)) (texts.source_text source.now)) }
+    ensures part { to.new ≡ take (2 * source.now.head.cols)
+        (drop (52 + 2 * (r * source.now.head.cols)) (texts.source_text source.now)) }
 {
     let cols = source.head.cols as usize;
     let from = r as usize * cols;

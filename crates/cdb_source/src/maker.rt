@@ -58,7 +58,8 @@ impl SourceMaker {
         ensures allowed { IsOk result ↔ All (IsAllowed self.old.head.kind novalue) row.now }
         ensures head { self.new.head ≡ self.old.head }
         ensures due { OnOk result (self.new.due + 1 ≡ self.old.due) }
-        ensures posts { OnOk result (self.new.posts ≡ map (post_of self.old.head.kind novalue) row.now ++ self.old.posts) }
+        ensures posts { OnOk result
+            (self.new.posts ≡ map (post_of self.old.head.kind novalue) row.now ++ self.old.posts) }
         ensures err { OnErr result (self.new ≡ self.old) }
     {
         if !is_row(self.head.kind, novalue, row) {

@@ -1,34 +1,44 @@
 //! One row of numbers, and the posts that it becomes.
-ghost use Rattle.std.specs.Prelude.{◌≡◌, ◌+◌, ◌≤◌, ◌↔◌, ◌++◌, IsTrue, All, map, take, drop, length};
-ghost use Rattle.cdb_source.specs.Posts.{IsAllowed, IsPost, post_of};
+ghost use Rattle.std.specs.Prelude.{◌≡◌, ◌⊎◌, ◌+◌, ◌≤◌, ◌≤ℤ◌, ◌↔◌, ◌++◌, IsTrue, All, map, take, drop, length};
+ghost use Rattle.cdb_source.specs.Posts.{IsAllowed, IsPost, greatest_of, least_of, post_of};
 
 use crate::kind::Kind;
+
+/// The least post of a kind, and the greatest.
+fn limits(kind: Kind) -> (i32, i32)
+    ensures least { result.0 ≡ least_of kind }
+    ensures greatest { result.1 ≡ greatest_of kind }
+{
+    match kind {
+        Kind::Elevation => (-32768, 32767),
+        Kind::Material => (0, 255),
+    }
+}
 
 pub(crate) fn is_post(kind: Kind, number: i32) -> bool
     ensures { IsTrue result ↔ IsPost kind number }
 {
-    match kind {
-        Kind::Elevation => -32768 <= number && number <= 32767,
-        Kind::Material => 0 <= number && number <= 255,
-    }
+    let (least, greatest) = limits(kind);
+    least <= number && number <= greatest
 }
 
-fn is_allowed(kind: Kind, novalue: i32, number: i32) -> bool
-    ensures no { IsTrue result → IsAllowed kind novalue number }
-    ensures yes { IsAllowed kind novalue number → IsTrue result }
+/// Tests without a branch, so that a loop tests several numbers at once.
+fn is_within(novalue: i32, least: i32, greatest: i32, number: i32) -> bool
+    ensures { IsTrue result ↔ ((number ≡ novalue) ⊎ ((least ≤ℤ number) × (number ≤ℤ greatest))) }
 {
-    number == novalue || is_post(kind, number)
+    (number == novalue) | ((least <= number) & (number <= greatest))
 }
 
+/// Looks at every number, also after one that isn't allowed.
 pub(crate) fn is_row(kind: Kind, novalue: i32, row: &[i32]) -> bool
     ensures { IsTrue result ↔ All (IsAllowed kind novalue) row.now }
 {
+    let (least, greatest) = limits(kind);
+    let mut all = true;
     for number in row {
-        if !is_allowed(kind, novalue, *number) {
-            return false;
-        }
+        all &= is_within(novalue, least, greatest, *number);
     }
-    true
+    all
 }
 
 fn post(kind: Kind, novalue: i32, number: i32) -> i16

@@ -14,6 +14,12 @@ const TO_WEST: i64 = 180 * DEGREE as i64;
 /// Arc units of 12 degrees.
 const GREATEST_STEP: u64 = 12 * DEGREE;
 
+/// The greatest number of rows or of columns.
+const GREATEST_SIDE: u32 = 65_536;
+
+/// The greatest number of posts.
+const MOST_POSTS: u64 = 16_777_216;
+
 /// The arc units of a step, 0 for a negative one.
 pub(crate) fn step_size(step: Arc) -> u64
     ensures { result ≡ size_of step.units }
@@ -32,10 +38,10 @@ pub(crate) fn is_grid(rows: u32, cols: u32) -> bool
     ensures { IsTrue result ↔ IsRaster rows cols }
 {
     1 <= rows
-        && rows <= 65536
+        && rows <= GREATEST_SIDE
         && 1 <= cols
-        && cols <= 65536
-        && rows as u64 * cols as u64 <= 16777216
+        && cols <= GREATEST_SIDE
+        && rows as u64 * cols as u64 <= MOST_POSTS
 }
 
 /// How far so many rows or columns reach, in arc units. It can pass 64 bits.

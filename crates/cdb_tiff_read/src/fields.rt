@@ -16,6 +16,12 @@ use cdb_tiff_base::tag::{
 };
 use cdb_tiff_base::{TiffCause, TiffError};
 
+/// The greatest width, and the greatest length.
+const GREATEST_SIDE: u32 = 65_536;
+
+/// The greatest number of pixels.
+const MOST_PIXELS: u64 = 16_777_216;
+
 /// The entry of the tag is there.
 fn check_tag(bytes: &[u8], d: Directory, tag: u16) -> Result<(), TiffError>
     requires { IsDirectory bytes.now d }
@@ -109,7 +115,8 @@ fn has_readable_samples(bits: u32, format: u32, fill: u32) -> bool
 pub fn check_bits(bytes: &[u8], d: Directory) -> Result<(), TiffError>
     requires { IsDirectory bytes.now d }
     ensures row { result ≡ pass (bad_bits bytes.now) }
-    ensures readable { OnOk result (IsTrue (is_readable (bits_per_sample bytes.now) (sample_format bytes.now) (fill_order bytes.now))) }
+    ensures readable { OnOk result
+        (IsTrue (is_readable (bits_per_sample bytes.now) (sample_format bytes.now) (fill_order bytes.now))) }
 {
     let bits = first_value(bytes, d, BITS_PER_SAMPLE, 1);
     let format = first_value(bytes, d, SAMPLE_FORMAT, 1);
@@ -125,10 +132,10 @@ fn has_image_size(width: u32, length: u32) -> bool
     ensures { result ≡ is_size width length }
 {
     0 < width
-        && width <= 65536
+        && width <= GREATEST_SIDE
         && 0 < length
-        && length <= 65536
-        && u64::from(width) * u64::from(length) <= 16_777_216
+        && length <= GREATEST_SIDE
+        && u64::from(width) * u64::from(length) <= MOST_PIXELS
 }
 
 /// The width and the length are neither 0 nor too large.

@@ -82,7 +82,9 @@ fn first_lacking(bytes: &[u8], image: &Image, counts: &Entry, strips: u32) -> Op
 fn has_bad_strips(bytes: &[u8], image: &Image, counts: &Entry) -> bool
     requires fields { HasFields bytes.now image.now }
     requires counts { tag_entry bytes.now STRIP_BYTE_COUNTS ≡ Some counts.now }
-    ensures { result ≡ (rows_per_strip bytes.now == 0 || (not (count_of bytes.now STRIP_OFFSETS == strips bytes.now) || (not (count_of bytes.now STRIP_BYTE_COUNTS == strips bytes.now) || lacks_bytes bytes.now))) }
+    ensures { result ≡ (rows_per_strip bytes.now == 0 ||
+        (not (count_of bytes.now STRIP_OFFSETS == strips bytes.now) ||
+        (not (count_of bytes.now STRIP_BYTE_COUNTS == strips bytes.now) || lacks_bytes bytes.now))) }
 {
     if image.rows_per_strip == 0 {
         return true;
@@ -123,7 +125,8 @@ fn is_short(bytes: &[u8], image: &Image, index: u32) -> bool
 #[tactic(auto, using(crate::proofs::First::loops))]
 fn first_short(bytes: &[u8], image: &Image, strips: u32) -> Option<u32>
     requires { HasFields bytes.now image.now }
-    ensures { result ≡ first_below (λ k. nat_lt (length bytes.now) (strip_offset bytes.now k + need bytes.now k)) strips }
+    ensures { result ≡
+        first_below (λ k. nat_lt (length bytes.now) (strip_offset bytes.now k + need bytes.now k)) strips }
 {
     for k in 0..strips {
         if is_short(bytes, image, k) {

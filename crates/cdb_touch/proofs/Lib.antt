@@ -5,6 +5,7 @@ pub mod CountLaws
 pub mod TileNumbers
 pub mod RectangleLaws
 pub mod LoadLaws
+pub mod Below
 pub mod AddLaws
 pub mod OrderLaws
 pub mod ReachedLaws

@@ -1,5 +1,5 @@
 -- The rows and the columns of tiles that hold a place of a source's level in its box.
-use Rattle.std.specs.Prelude.{◌≡◌, ℕ, ◌+◌, ◌*◌, ◌<◌}
+use Rattle.std.specs.Prelude.{◌≡◌, ℕ, ◌+◌, ◌*◌}
 use Rattle.cdb_grid.specs.Units.{step, side_of, row_of}
 use Rattle.cdb_grid.specs.Tiles.{tile_height}
 use Rattle.cdb_grid.specs.declared.family.Family.{Family}
@@ -18,32 +18,19 @@ HasRow head h number =
 -- the same of a column of tiles of a height, where geocells have a width
 abbrev pub HasColumn : SourceHead → ℕ → ℕ → ℕ → Type 0
 HasColumn head h width number =
-    HasPlace head.kind (width * step (source_height head)) (corner_of head).east ((corner_of head).east + box_width head)
-    (side_of h * (width * step h)) number
+    HasPlace head.kind (width * step (source_height head)) (corner_of head).east
+    ((corner_of head).east + box_width head) (side_of h * (width * step h)) number
 
 -- a tile of a family that a source reaches
 pub record IsOfFamily (head : SourceHead) (family : Family) (t : Tile) : Type 0 where
   pub reaches : Reaches head t
   pub family_is : t.family ≡ family
 
--- one below a height
-pub record IsBelowHeight (head : SourceHead) (family : Family) (height : ℕ) (t : Tile) : Type 0 where
-  pub reaches : Reaches head t
-  pub family_is : t.family ≡ family
-  pub height_below : tile_height t < height
-
 -- one of a height
 pub record IsOfHeight (head : SourceHead) (family : Family) (height : ℕ) (t : Tile) : Type 0 where
   pub reaches : Reaches head t
   pub family_is : t.family ≡ family
   pub height_is : tile_height t ≡ height
-
--- one of a height south of a row of geocells, which counts from the south pole
-pub record IsBelowRow (head : SourceHead) (family : Family) (height row : ℕ) (t : Tile) : Type 0 where
-  pub reaches : Reaches head t
-  pub family_is : t.family ≡ family
-  pub height_is : tile_height t ≡ height
-  pub row_below : row_of t.cell.lat < row
 
 -- one of a height in a row of geocells
 pub record IsOfRow (head : SourceHead) (family : Family) (height row : ℕ) (t : Tile) : Type 0 where

@@ -64,7 +64,8 @@ pub(crate) fn with_places(
     requires small { near + step < 2 ^ 60 }
     requires far { far ≤ globe }
     requires globe { globe < 2 ^ 59 }
-    ensures each { (n : ℕ) → (n + 1) * extent ≤ globe → HasPlace kind step near far extent n ↔ ((result.first ≤ n) × (n < result.end)) }
+    ensures each { (n : ℕ) → (n + 1) * extent ≤ globe →
+        HasPlace kind step near far extent n ↔ ((result.first ≤ n) × (n < result.end)) }
     ensures order { result.first ≤ result.end }
     ensures within { (all : ℕ) → globe ≤ all * extent → result.end ≤ all }
 {

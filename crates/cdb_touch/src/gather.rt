@@ -48,7 +48,8 @@ fn push_rectangle(
     requires south { geocells * tiles_of height ≤ rectangle.rows.first }
     requires north { rectangle.rows.end ≤ geocells * tiles_of height + tiles_of height }
     requires east { rectangle.columns.end ≤ 360 / width_at geocells * tiles_of height }
-    ensures { OnOk result (Adds (IsInRectangle family height rectangle.rows rectangle.columns) tiles.old.items tiles.new.items) }
+    ensures { OnOk result
+        (Adds (IsInRectangle family height rectangle.rows rectangle.columns) tiles.old.items tiles.new.items) }
 {
     if rectangle.columns.len() == 0 {
         return Ok(());

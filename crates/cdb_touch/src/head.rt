@@ -13,7 +13,8 @@ use cdb_source::SourceHead;
 pub(crate) fn rows(head: &SourceHead, height: u32) -> Run
     requires finer { source_height head.now ≤ height }
     requires most { height ≤ 34 }
-    ensures each { (n : ℕ) → n < 180 * tiles_of height → HasRow head.now height n ↔ ((result.first ≤ n) × (n < result.end)) }
+    ensures each { (n : ℕ) → n < 180 * tiles_of height →
+        HasRow head.now height n ↔ ((result.first ≤ n) × (n < result.end)) }
     ensures order { result.first ≤ result.end }
     ensures within { result.end ≤ 180 * tiles_of height }
 {
@@ -33,7 +34,8 @@ pub(crate) fn columns(head: &SourceHead, height: u32, row: u64) -> Run
     requires finer { source_height head.now ≤ height }
     requires most { height ≤ 34 }
     requires row { row < 180 }
-    ensures each { (n : ℕ) → n < 360 / width_at row * tiles_of height → HasColumn head.now height (width_at row) n ↔ ((result.first ≤ n) × (n < result.end)) }
+    ensures each { (n : ℕ) → n < 360 / width_at row * tiles_of height →
+        HasColumn head.now height (width_at row) n ↔ ((result.first ≤ n) × (n < result.end)) }
     ensures order { result.first ≤ result.end }
     ensures within { result.end ≤ 360 / width_at row * tiles_of height }
 {

@@ -1,6 +1,6 @@
 use Rattle.std.proofs.Common.{◌≤◌}
 use Rattle.cdb_source.specs.Reached.{source_height}
-use Rattle.cdb_touch.specs.Reach.{IsBelowHeight}
+use Rattle.cdb_touch.proofs.Below.{IsBelowHeight}
 use Rattle.cdb_touch.specs.Touched.{Adds}
 use Rattle.cdb_touch.proofs.gather.push_family.Given as goal
 

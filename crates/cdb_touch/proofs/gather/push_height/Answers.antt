@@ -1,7 +1,8 @@
 use Rattle.std.proofs.Common.{ℕ, ◌+◌, ◌<◌, ◌≤◌, arith}
 use Rattle.cdb_grid.specs.Units.{row_of}
 use Rattle.cdb_touch.specs.Numbers.{IsInRectangle}
-use Rattle.cdb_touch.specs.Reach.{IsBelowRow, IsOfRow, IsOfHeight}
+use Rattle.cdb_touch.specs.Reach.{IsOfRow, IsOfHeight}
+use Rattle.cdb_touch.proofs.Below.{IsBelowRow}
 use Rattle.cdb_touch.proofs.AddLaws.{Adds-none, Adds-then, Adds-iff}
 use Rattle.cdb_touch.proofs.LoadLaws.{row_none, one_row_split, all_rows_same}
 use Rattle.cdb_touch.proofs.gather.push_height.Goals as goal

@@ -1,4 +1,4 @@
-use Rattle.cdb_touch.specs.Reach.{IsBelowRow}
+use Rattle.cdb_touch.proofs.Below.{IsBelowRow}
 use Rattle.cdb_touch.specs.Touched.{Adds}
 use Rattle.cdb_touch.proofs.gather.push_height.Given as goal
 

@@ -3,7 +3,7 @@ use Rattle.cdb_grid.specs.Units.{tiles_of}
 use Rattle.cdb_grid.specs.declared.family.Family.{Family}
 use Rattle.cdb_source.specs.Reached.{kind_of}
 use Rattle.cdb_touch.specs.Count.{HasCount}
-use Rattle.cdb_touch.specs.Reach.{IsBelowRow}
+use Rattle.cdb_touch.proofs.Below.{IsBelowRow}
 use Rattle.cdb_touch.proofs.loads.count_at_height.Given as goal
 
 abbrev pub invariant-loop-row : goal.invariant-loop-row
