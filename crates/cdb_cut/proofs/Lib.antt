@@ -15,3 +15,6 @@ pub mod ReducedLaws
 pub mod PaintLaws
 pub mod FillLaws
 pub mod WindowTests
+pub mod FinerTiles
+pub mod FrameStarts
+pub mod PaintedSources

@@ -1,4 +1,5 @@
-//! The weighted mean of posts, in whole numbers.
+//! The weighted mean of posts, in whole numbers, at one place. Here a post may be none or lie past the
+//! last; `blend` is for whole rows of numbers, and needs a neighbour in place of each post of weight zero.
 ghost use Rattle.std.specs.Prelude.{◌≡◌, ◌+◌, ◌*◌, ◌^◌, ◌≤◌, ◌<◌, IfSome, unsigned_abs};
 ghost use Rattle.std.specs.Option.{option_map};
 ghost use Rattle.cdb_source.specs.Sample.{plus, rounded, weighted_sum, post_at, row_step, column_step};

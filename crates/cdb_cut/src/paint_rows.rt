@@ -8,11 +8,20 @@ ghost use Rattle.cdb_source.specs.Sample.{value_of};
 ghost use Rattle.cdb_cut.specs.Window.{LooksAt};
 ghost use Rattle.cdb_cut.specs.Painted.{mean_rule, cell_rule, Stand};
 
-use crate::blend::{Between, or_mean};
+use crate::blend::{Between, FourMean, or_mean};
 use crate::walk::{Columns, post_beyond};
 
-/// Writes the means at the places of a row where the frame has no value.
-pub(crate) fn mean_row(at: &Between, columns: &Columns, low: &[i16], high: &[i16], part: &mut [i16])
+/// Writes the means at the places of a row where the frame has no value. There is one loop for each way
+/// to take a mean, so that none asks for it at each place.
+pub(crate) fn mean_row<M: FourMean + Copy>(
+    way: M,
+    at: &Between,
+    columns: &Columns,
+    low: &[i16],
+    high: &[i16],
+    part: &mut [i16],
+)
+    requires serves { M.serves way (at.now.dlat * at.now.dlon) }
     requires width { length part.old ≤ 1024 }
     requires step { at.now.dlon ≡ columns.now.axis.step }
     requires stand { Stand columns.now.axis.start columns.now.axis.stride columns.now.axis.step (length part.old)
@@ -31,7 +40,7 @@ pub(crate) fn mean_row(at: &Between, columns: &Columns, low: &[i16], high: &[i16
         let beyond = columns.parts[k];
         let east = post_beyond(west, beyond);
         part[k] = or_mean(
-            part[k], &between, beyond, low[west], low[east], high[west], high[east],
+            &way, part[k], &between, beyond, low[west], low[east], high[west], high[east],
         );
     }
 }

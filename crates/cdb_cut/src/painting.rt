@@ -1,15 +1,15 @@
 //! Paints a source into the frame of a tile.
-ghost use Rattle.std.specs.Prelude.{◌≡◌, ℕ, ◌+◌, ◌-◌, ◌*◌, ◌/◌, ◌%◌, ◌^◌, ◌≤◌, ◌<◌, IsTrue, IfSome, length, take, drop};
+ghost use Rattle.std.specs.Prelude.{◌≡◌, ℕ, ◌+◌, ◌-◌, ◌*◌, ◌/◌, ◌%◌, ◌^◌, ◌≤◌, ◌<◌, nat_le, IsTrue, IfSome, length, take, drop};
 ghost use Rattle.std.proofs.Props.{props};
 ghost use Rattle.cdb_grid.specs.Frames.{IsRowChanged};
 ghost use Rattle.cdb_source.specs.declared.kind.Kind.TheVariants.{Elevation, Material};
 ghost use Rattle.cdb_grid.specs.Tiles.{tile_side};
 ghost use Rattle.cdb_source.specs.declared.source.Source as sources;
-ghost use Rattle.cdb_cut.specs.Painted.{painted_rule, IsCovered, Stand};
-ghost use Rattle.cdb_cut.specs.Window.{IsWindow, rows_of};
+ghost use Rattle.cdb_cut.specs.Painted.{mean_rule, painted_rule, IsCovered, Stand};
+ghost use Rattle.cdb_cut.specs.Window.{LooksAt, IsWindow, rows_of};
 ghost use Rattle.cdb_cut.specs.OneTile.{IsPainted};
 
-use crate::blend::Between;
+use crate::blend::{Between, Narrow, Shift, Wide};
 use crate::paint_rows::{cell_row, mean_row};
 use crate::source_rows::Rows;
 use crate::tile_part::part_of;
@@ -34,7 +34,8 @@ pub(crate) struct Painted<'a> {
     pub narrow: bool,
     pub exponent: Option<u32>,
     pub ghost fits: { IsTrue narrow → lat.step * lon.step ≤ 2 ^ 46 },
-    pub ghost power: { IfSome exponent (λ n. (n < 64) × (2 * (lat.step * lon.step) ≡ 2 ^ n)) } by { Prim.hlevel props },
+    pub ghost power: { IfSome exponent (λ n. (lat.step * lon.step ≤ 2 ^ 46) ×
+        ((n < 64) × (2 * (lat.step * lon.step) ≡ 2 ^ n))) } by { Prim.hlevel props },
 }
 
 impl Painted<'_> {
@@ -49,6 +50,42 @@ impl Painted<'_> {
         &self.posts[from..from + self.cols]
     }
 
+    /// Writes the means of a row whose places stand so far above a row of posts, in the way that serves for
+    /// the steps.
+    fn means(&self, above: u64, low: &[i16], high: &[i16], part: &mut [i16])
+        requires above { above < self.now.lat.step }
+        requires width { length part.old ≤ 1024 }
+        requires stand { let lon = self.now.lon in Stand lon.start lon.stride lon.step (length part.old)
+            self.now.column_posts.now self.now.column_parts.now }
+        requires high { length high.now ≡ length low.now }
+        requires flat { above ≡ 0 → high.now ≡ low.now }
+        requires within { (c col : ℕ) → c < length part.old → LooksAt Elevation self.now.lon.step
+            (self.now.lon.start + c * self.now.lon.stride) col → col < length low.now }
+        ensures { let lon = self.now.lon in IsRowChanged (mean_rule self.now.lat.step lon.step above lon.start
+            lon.stride low.now high.now) (length part.old) part.old part.new }
+    {
+        let between = Between {
+            dlat: self.lat.step,
+            dlon: self.lon.step,
+            above,
+        };
+        let columns = Columns {
+            axis: self.lon,
+            posts: self.column_posts,
+            parts: self.column_parts,
+        };
+        match self.exponent {
+            Some(exponent) => mean_row(Shift { exponent }, &between, &columns, low, high, part),
+            None => {
+                if self.narrow {
+                    mean_row(Narrow, &between, &columns, low, high, part)
+                } else {
+                    mean_row(Wide, &between, &columns, low, high, part)
+                }
+            }
+        }
+    }
+
     fn elevations(&self, row: usize, part: &mut [i16])
         requires stand { let lon = self.now.lon in Stand lon.start lon.stride lon.step (length part.old)
             self.now.column_posts.now self.now.column_parts.now }
@@ -60,24 +97,12 @@ impl Painted<'_> {
             lon.stride row) (length part.old) part.old part.new }
     {
         let up = self.lat.along(row as u64);
-        let columns = Columns {
-            axis: self.lon,
-            posts: self.column_posts,
-            parts: self.column_parts,
-        };
         let low = self.source_row(up.post);
-        let between = Between {
-            dlat: self.lat.step,
-            dlon: self.lon.step,
-            above: up.part,
-            narrow: self.narrow,
-            exponent: self.exponent,
-        };
         if up.part == 0 {
-            mean_row(&between, &columns, low, low, part);
+            self.means(up.part, low, low, part);
         } else {
             let high = self.source_row(up.post + 1);
-            mean_row(&between, &columns, low, high, part);
+            self.means(up.part, low, high, part);
         }
     }
 
@@ -121,12 +146,13 @@ impl RowRule for Painted<'_> {
 fn is_narrow(dlat: u64, dlon: u64) -> bool
     requires dlat { dlat ≤ 417470821171200 }
     requires dlon { dlon ≤ 417470821171200 }
-    ensures { IsTrue result → dlat * dlon ≤ 2 ^ 46 }
+    ensures exactly { result ≡ nat_le (dlat * dlon) (2 ^ 46) }
+    ensures fits { IsTrue result → dlat * dlon ≤ 2 ^ 46 }
 {
     dlat as u128 * dlon as u128 <= 1 << 46
 }
 
-/// The exponent of a power of two, or `None`.
+/// The exponent of a power of two. `None` says nothing of the number: the quotient is then no shift.
 fn exponent_of(number: u64) -> Option<u32>
     ensures { IfSome result (λ n. (n < 64) × (number ≡ 2 ^ n)) }
 {
@@ -144,7 +170,7 @@ fn exponent_of(number: u64) -> Option<u32>
 /// The exponent of twice the product of two steps, where that is a power of two and fits 64 bits.
 fn exponent_of_steps(dlat: u64, dlon: u64, narrow: bool) -> Option<u32>
     requires { IsTrue narrow → dlat * dlon ≤ 2 ^ 46 }
-    ensures { IfSome result (λ n. (n < 64) × (2 * (dlat * dlon) ≡ 2 ^ n)) }
+    ensures { IfSome result (λ n. (dlat * dlon ≤ 2 ^ 46) × ((n < 64) × (2 * (dlat * dlon) ≡ 2 ^ n))) }
 {
     if !narrow {
         return None;

@@ -12,7 +12,7 @@ use crate::walk::Axis;
 use cdb_grid::{Tile, side};
 use cdb_source::SourceHead;
 
-/// A number that divides both.
+/// A number that divides both. The greater it is, the fewer bits a mean takes.
 fn common_divisor(a: u64, b: u64) -> u64
     requires { 1 ≤ b }
     ensures some { 1 ≤ result }
@@ -28,7 +28,7 @@ fn common_divisor(a: u64, b: u64) -> u64
     x
 }
 
-/// Distances without a divisor that they share.
+/// Distances with a divisor that they share taken out.
 fn reduced(start: u64, stride: u64, step: u64) -> Axis
     requires start { start < 2 ^ 56 }
     requires stride { stride ≤ 417470821171200 }

@@ -1,3 +1,4 @@
+//! A block of memory that is cut into equal frames, each of which is out or free.
 ghost use Rattle.std.specs.Prelude.{◌≡◌, ◌≢◌, ◌≤◌, ◌<◌, ◌+◌, ◌*◌, ◌^◌, ◌⊎◌, take, drop, true, false, length, not};
 ghost use Rattle.std.specs.Prelude.{count_by, vec_len, IfOk, IfSome, MatchOption};
 ghost use Rattle.std.specs.Borrow.{sem};

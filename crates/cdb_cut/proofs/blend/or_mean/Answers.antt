@@ -6,7 +6,7 @@ use Rattle.cdb_cut.proofs.OrMean.{Four, south_west_lost, south_east_lost, north_
 use Rattle.cdb_cut.proofs.blend.or_mean.Goals as goal
 
 pub returns-then-sw-eq-NONE : goal.returns-then-sw-eq-NONE
-returns-then-sw-eq-NONE c =
+returns-then-sw-eq-NONE g c =
     let at = c.args.at.now in
     let four : Four at.dlat at.dlon at.above c.args.beyond c.args.sw c.args.se c.args.nw c.args.ne = record {
       above = at.above_below;
@@ -22,7 +22,7 @@ returns-then-sw-eq-NONE c =
     (omega (arith, ints, c.if-old-ne-NONE.false)) (omega (arith, ints, c.if-sw-eq-NONE.true))
 
 pub returns-then-se-eq-NONE : goal.returns-then-se-eq-NONE
-returns-then-se-eq-NONE c =
+returns-then-se-eq-NONE g c =
     let at = c.args.at.now in
     let four : Four at.dlat at.dlon at.above c.args.beyond c.args.sw c.args.se c.args.nw c.args.ne = record {
       above = at.above_below;
@@ -38,7 +38,7 @@ returns-then-se-eq-NONE c =
     (omega (arith, ints, c.if-old-ne-NONE.false)) (λ e. omega (arith, ints, c.if-sw-eq-NONE.false, e)) (omega (arith, ints, c.if-se-eq-NONE.true))
 
 pub returns-then-nw-eq-NONE : goal.returns-then-nw-eq-NONE
-returns-then-nw-eq-NONE c =
+returns-then-nw-eq-NONE g c =
     let at = c.args.at.now in
     let four : Four at.dlat at.dlon at.above c.args.beyond c.args.sw c.args.se c.args.nw c.args.ne = record {
       above = at.above_below;
@@ -54,7 +54,7 @@ returns-then-nw-eq-NONE c =
     (omega (arith, ints, c.if-old-ne-NONE.false)) (λ e. omega (arith, ints, c.if-sw-eq-NONE.false, e)) (omega (arith, ints, c.if-nw-eq-NONE.true))
 
 pub returns-then-ne-eq-NONE : goal.returns-then-ne-eq-NONE
-returns-then-ne-eq-NONE c =
+returns-then-ne-eq-NONE g c =
     let at = c.args.at.now in
     let four : Four at.dlat at.dlon at.above c.args.beyond c.args.sw c.args.se c.args.nw c.args.ne = record {
       above = at.above_below;
@@ -70,7 +70,7 @@ returns-then-ne-eq-NONE c =
     (omega (arith, ints, c.if-old-ne-NONE.false)) (λ e. omega (arith, ints, c.if-se-eq-NONE.false, e)) (λ e. omega (arith, ints, c.if-nw-eq-NONE.false, e)) (omega (arith, ints, c.if-ne-eq-NONE.true))
 
 pub returns : goal.returns
-returns c =
+returns g c =
     let at = c.args.at.now in
     let four : Four at.dlat at.dlon at.above c.args.beyond c.args.sw c.args.se c.args.nw c.args.ne = record {
       above = at.above_below;
