@@ -96,7 +96,7 @@ impl Chain {
     /// The record of a version, or `None` where the version is 0 or above the newest.
     pub fn record_at(&self, version: u32) -> Option<&Record>
         ensures { MatchOption result ((version ≡ 0) ⊎ (length self.now.records < version))
-            (λ r. slice_get self.now.records (version - 1) ≡ Some r.now) }
+            (λ r. (1 ≤ version) × (slice_get self.now.records (version - 1) ≡ Some r.now)) }
     {
         if version == 0 {
             return None;

@@ -12,12 +12,9 @@ use crate::chain::{Chain, push_places};
 use crate::open_error::OpenError;
 use crate::place::Place;
 use cdb_files::Disk;
-use cdb_manifest::{Record, RecordError, decode};
+use cdb_manifest::{RECORD_BYTES, Record, RecordError, decode};
 use cdb_names::record_path;
 use std::alloc::{AllocError, Global};
-
-/// How many bytes a record has at most.
-const RECORD_BYTES: u64 = 264_980;
 
 /// The bytes of a version's record.
 fn read_bytes<D: Disk>(alloc: Global, disk: &mut D, version: u32) -> Result<Vec<u8>, OpenError>
@@ -35,10 +32,10 @@ fn read_bytes<D: Disk>(alloc: Global, disk: &mut D, version: u32) -> Result<Vec<
         Ok(None) => return Err(OpenError::NotAStore { version, place: 0 }),
         Err(_) => return Err(OpenError::Fault),
     };
-    if size > RECORD_BYTES {
+    if size > u64::from(RECORD_BYTES) {
         return Err(OpenError::NotAStore {
             version,
-            place: 264_980,
+            place: RECORD_BYTES,
         });
     }
     let Ok(mut bytes) = vec![in alloc; 0; size as usize] else {

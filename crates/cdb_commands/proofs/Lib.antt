@@ -7,6 +7,7 @@ pub mod LineLemmas
 pub mod JoinedWords
 pub mod NumbersBack
 pub mod WritingBack
+pub mod WordingsRead
 pub mod ReadForms
 pub mod Wordings
 pub mod OneReading

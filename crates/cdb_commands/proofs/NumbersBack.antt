@@ -32,7 +32,7 @@ digits_back most n some short wide =
     rw (a, b, all_digits n wide, digits_value-decimal own n wide) refl
 
 -- a text that begins with a digit begins with no minus
-plain_signed : (most : ℕ) (w : Text) (n : ℕ) → 0 < length w → list_all is_ascii_digit w ≡ true → digits most w ≡ Some n → signed most w ≡ Some (pos n)
+pub plain_signed : (most : ℕ) (w : Text) (n : ℕ) → 0 < length w → list_all is_ascii_digit w ≡ true → digits most w ≡ Some n → signed most w ≡ Some (pos n)
 unfolding signed
 plain_signed most [] n some all e = absurd (omega arith)
 plain_signed most (c ∷ w) n some all e =

@@ -45,7 +45,7 @@ digits_form most w n e =
     let v = both (nat_lt 0 (length w)) (nat_le (length w) most) u.0 in
     subst (λ (n : ℕ). n < 10 ^ most) t.1 (digits_value_short own w most u.1 (leb-true (length w) most v.1))
 
-abs_neg : (n : ℕ) → nat_abs (neg_ℤ (pos n)) ≡ n
+pub abs_neg : (n : ℕ) → nat_abs (neg_ℤ (pos n)) ≡ n
 abs_neg zero = refl
 abs_neg (suc n) = refl
 

@@ -16,11 +16,11 @@ use Rattle.cdb_commands.proofs.JoinedWords.{both, has_no_space, joined}
 use Rattle.cdb_commands.proofs.PathLemmas.{is_byte_of_path, path_bytes}
 use Rattle.cdb_commands.proofs.NumbersBack.{all_digits, weaker, digits_back, signed_back, fraction_back, posts_back, decimal_clear, signed_clear, fraction_clear, posts_clear}
 
-kind_back : (k : Kind) → kind_word (kind_text k) ≡ Some k
+pub kind_back : (k : Kind) → kind_word (kind_text k) ≡ Some k
 kind_back Elevation = refl
 kind_back Material = refl
 
-kind_clear : (k : Kind) → has_no_space (kind_text k) ≡ true
+pub kind_clear : (k : Kind) → has_no_space (kind_text k) ≡ true
 kind_clear Elevation = refl
 kind_clear Material = refl
 
@@ -49,7 +49,7 @@ file_back s is =
     rw (head_back s.head (signed_decimal s.novalue ∷ s.path ∷ []) is.head, signed_back 9 s.novalue (omega arith) short (omega arith), is.path) refl
 
 -- a line of words without spaces is read by its words
-read_words : (first : Text) (c : ℕ) (rest : Text) (ws : List Text) (s : Option Sentence) → join_with_byte 32 (first ∷ ws) ≡ c ∷ rest → list_all has_no_space (first ∷ ws) ≡ true → sentence first ws ≡ s → line_of (join_with_byte 32 (first ∷ ws)) ≡ s
+pub read_words : (first : Text) (c : ℕ) (rest : Text) (ws : List Text) (s : Option Sentence) → join_with_byte 32 (first ∷ ws) ≡ c ∷ rest → list_all has_no_space (first ∷ ws) ≡ true → sentence first ws ≡ s → line_of (join_with_byte 32 (first ∷ ws)) ≡ s
 unfolding line_of
 read_words first c rest ws s starts clear said =
     let some : bytes_eq (join_with_byte 32 (first ∷ ws)) [] ≡ false = ap (λ (t : Text). bytes_eq t []) starts in
@@ -59,7 +59,7 @@ some_if : {X : Type 0} (b : Bool) (x y : X) → cond {A = Option X} b (Some x) N
 some_if true x y e = refl
 some_if false x y e = absurd cc
 
-path_clear : (p : Text) → path p ≡ Some p → has_no_space p ≡ true
+pub path_clear : (p : Text) → path p ≡ Some p → has_no_space p ≡ true
 unfolding path
 path_clear p is =
     let t = both (nat_le (length p) 128) (list_all is_part (slice_split is_slash p)) (some_if (nat_le (length p) 128 && list_all is_part (slice_split is_slash p)) p p is) in
@@ -68,7 +68,7 @@ path_clear p is =
     no_space : (c : ℕ) → is_byte_of_path c ≡ true → not (is_space c) ≡ true
     no_space c h = grind (arith, nat_tests)
 
-name_clear : (name : Text) → file_name name ≡ Some name → has_no_space name ≡ true
+pub name_clear : (name : Text) → file_name name ≡ Some name → has_no_space name ≡ true
 unfolding file_name
 name_clear name is =
     let short = nat_lt 0 (length name) && nat_le (length name) 128 in
@@ -79,7 +79,7 @@ name_clear name is =
     no_space c h = grind (arith, nat_tests)
 
 -- a number isn't the word `all`
-not_all : (w : Text) → list_all is_ascii_digit w ≡ true → bytes_eq w (codes "all") ≡ false
+pub not_all : (w : Text) → list_all is_ascii_digit w ≡ true → bytes_eq w (codes "all") ≡ false
 not_all [] h = refl
 not_all (c ∷ w) h = let other : nat_eq c 97 ≡ false = apart c (both (is_ascii_digit c) (list_all is_ascii_digit w) h).0 in rw other refl
   where
@@ -95,7 +95,7 @@ count_back n short = digits_back 9 n (omega arith) short (omega arith)
 steps_back : (n : ℕ) → n < 10 ^ 9 → step_word (decimal n) ≡ Some (step n)
 steps_back n short = rw (not_all (decimal n) (all_digits n (omega arith)), count_back n short) refl
 
-blank_back : line_of [] ≡ Some blank
+pub blank_back : line_of [] ≡ Some blank
 unfolding line_of
 blank_back = refl
 

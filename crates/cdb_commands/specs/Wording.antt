@@ -5,7 +5,7 @@ use Rattle.std.specs.List.{join_with_byte}
 use Rattle.cdb_grid.specs.declared.fraction.Fraction.{Fraction}
 use Rattle.cdb_model.specs.Grammar.{Head, Sentence, inline, source, publish, step, step_all, open_session, tile, close, versions, quit, blank, line_of}
 use Rattle.cdb_model.specs.Text.{Text}
-use Rattle.cdb_model.specs.Writing.{kind_text}
+use Rattle.cdb_model.specs.Writing.{kind_text, IsSentence}
 
 -- ---- numbers
 
@@ -105,3 +105,7 @@ pub record IsWording (line : Text) (s : Sentence) : Type 0 where
 -- what is read of a line is spelled by it
 abbrev pub ReadingIsWorded : Type 0
 ReadingIsWorded = (line : Text) (s : Sentence) → line_of line ≡ Some s → IsWording line s
+
+-- each text that may stand for a sentence of the grammar is read as the sentence
+abbrev pub WordingIsRead : Type 0
+WordingIsRead = (line : Text) (s : Sentence) → IsSentence s → IsWording line s → line_of line ≡ Some s

@@ -7,6 +7,12 @@ use crate::numbers::read_digits;
 use crate::words_error::WordsError;
 use std::alloc::Global;
 
+/// How many steps follow a line at most.
+const MOST_STEPS: u64 = 64;
+
+/// How many publications are made at most.
+const MOST_PUBLICATIONS: u64 = 64;
+
 /// What the program does.
 #[derive(Clone, Copy, Debug, PartialEq, Eq)]
 pub enum Mode {
@@ -71,9 +77,9 @@ fn options_in(given: &Given) -> Option<Options>
         (number_of 0 4294967295 1 (text given.now.start)) (number_of 1 64 4 (text given.now.count)) }
 {
     let mode = mode_in(given.mode)?;
-    let background = number_in(given.background, 0, 64, 1)?;
-    let start = number_in(given.start, 0, 4294967295, 1)?;
-    let count = number_in(given.count, 1, 64, 4)?;
+    let background = number_in(given.background, 0, MOST_STEPS, 1)?;
+    let start = number_in(given.start, 0, u32::MAX as u64, 1)?;
+    let count = number_in(given.count, 1, MOST_PUBLICATIONS, 4)?;
     Some(Options {
         mode,
         background: background as u8,

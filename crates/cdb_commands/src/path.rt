@@ -6,6 +6,9 @@ ghost use Rattle.cdb_model.specs.Grammar.{path, file_name, is_path_byte, is_part
 use crate::fraction::cut_at_slash;
 use arrayvec::ArrayString;
 
+/// How many bytes a path or a file name has at most.
+const MOST_BYTES: usize = 128;
+
 /// Letters, digits, `_`, `-` and `.`.
 fn may_stand_in_path(byte: u8) -> bool
     ensures { result ≡ is_path_byte byte }
@@ -47,7 +50,7 @@ fn all_parts(word: &[u8]) -> bool
 pub fn read_path(word: &[u8]) -> Option<ArrayString<128>>
     ensures { option_map (λ p. p.bytes) result ≡ path word.now }
 {
-    if word.len() > 128 || !all_parts(word) {
+    if word.len() > MOST_BYTES || !all_parts(word) {
         return None;
     }
     let Ok(text) = str::from_utf8(word) else {
@@ -69,7 +72,7 @@ fn all_visible(word: &[u8]) -> bool
 pub fn read_file_name(word: &[u8]) -> Option<&[u8]>
     ensures { option_map (λ name. name.now) result ≡ file_name word.now }
 {
-    if word.is_empty() || word.len() > 128 || !all_visible(word) {
+    if word.is_empty() || word.len() > MOST_BYTES || !all_visible(word) {
         return None;
     }
     Some(word)

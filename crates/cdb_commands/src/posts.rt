@@ -6,6 +6,9 @@ use crate::numbers::read_small;
 use crate::words::Words;
 use arrayvec::ArrayVec;
 
+/// How many posts stand in a line at most.
+const MOST_POSTS: usize = 64;
+
 /// The posts of a source: 1 to 64 numbers of at most 6 digits.
 pub fn read_posts(words: Words<'_>) -> Option<ArrayVec<i32, 64>>
     ensures { option_map (λ v. v.items) result ≡ posts (left words.entry) }
@@ -16,7 +19,7 @@ pub fn read_posts(words: Words<'_>) -> Option<ArrayVec<i32, 64>>
         let Some(post) = read_small(word, 6) else {
             return None;
         };
-        if posts.len() == 64 {
+        if posts.len() == MOST_POSTS {
             return None;
         }
         posts.push(post);

@@ -12,7 +12,7 @@ use Rattle.cdb_manifest.specs.declared.record_.Record.{Record}
 use Rattle.cdb_manifest.specs.declared.record_error.RecordError.{RecordError}
 use Rattle.cdb_manifest.specs.declared.record_error.RecordError.TheVariants.{Memory, Bad}
 use Rattle.cdb_model.specs.Records.{record_text, front_text, heads_text, entries_text, entry_text}
-use Rattle.cdb_manifest.specs.Records.{text_of, IsPublished}
+use Rattle.cdb_manifest.specs.Records.{text_of}
 use Rattle.cdb_manifest.specs.Entries.{Ascending, IsRecord}
 use Rattle.cdb_manifest.specs.Decoding.{to_head, to_entry, FirstBad, IsFront, TellsHead, TellsEntry, Tells, GivesRecord}
 use Rattle.cdb_manifest.proofs.PlaceLaws.{length-heads_text, length-entries_text, same_number, all_heads, all_entries, no_bad}
@@ -113,19 +113,9 @@ gives bytes (Err (Bad place)) spelled told item e = no_bad item.version item.hea
 
 -- ---- the record of a publication
 
-pub published : (version : ℕ) (heads : List SourceHead) (tiles : List Tile) → IsPublished version heads tiles → (item : Record) × (text_of item ≡ record_text version heads tiles)
+pub published : (version : ℕ) (heads : List SourceHead) (tiles : List Tile) → IsRecord version heads tiles → (item : Record) × (text_of item ≡ record_text version heads tiles)
 unfolding record_from
-published version heads tiles p = (
-  record_from version heads tiles (record {
-    version_least = p.version_least;
-    version_most = p.version_most;
-    heads_least = p.heads_least;
-    heads_most = p.heads_most;
-    tiles_most = p.tiles_most;
-    ordered = p.touched.ordered;
-  }),
-  refl,
-)
+published version heads tiles is = (record_from version heads tiles is, refl)
 
 -- the record of version 1 with one head, of one post at N46E007, and its three tiles, after the head
 pub worked_entries : (a b c : Tile) → a.family ≡ Elev → b.family ≡ Low → c.family ≡ High → IsWorked a → IsWorked b → IsWorked c

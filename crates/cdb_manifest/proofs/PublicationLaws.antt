@@ -19,6 +19,6 @@ publications version sources tiles least most publication touched =
       version_most = most;
       heads_least = omega (arith, same, publication.some);
       heads_most = omega (arith, same, publication.few);
-      touched = touched;
       tiles_most = omega (arith, few, publication.fits);
+      ordered = touched.ordered;
     })

@@ -1,7 +1,6 @@
 -- What a record may hold.
-use Rattle.std.specs.Prelude.{◌≡◌, ℕ, ◌≤◌, List, length}
+use Rattle.std.specs.Prelude.{◌≡◌, ℕ, ◌≤◌, List}
 use Rattle.cdb_grid.specs.declared.tile.Tile.{Tile}
-use Rattle.cdb_source.specs.declared.head.SourceHead.{SourceHead}
 use Rattle.cdb_source.specs.Reached.{IsTouched}
 use Rattle.cdb_source.specs.declared.source.Source.{Source}
 use Rattle.cdb_model.specs.Publications.{heads_of}
@@ -12,15 +11,6 @@ use Rattle.cdb_model.specs.Records.{record_text}
 -- the text of a record
 abbrev pub text_of : Record → List ℕ
 text_of item = record_text item.version item.heads item.tiles
-
--- the record of a publication: its version, the heads of its sources and the tiles that they touch
-pub record IsPublished (version : ℕ) (heads : List SourceHead) (tiles : List Tile) : Type 0 where
-  pub version_least : 1 ≤ version
-  pub version_most : version ≤ 4096
-  pub heads_least : 1 ≤ length heads
-  pub heads_most : length heads ≤ 64
-  pub touched : IsTouched heads tiles
-  pub tiles_most : length tiles ≤ 16384
 
 -- the text of each publication's record is that of a record
 abbrev pub PublicationsHaveRecords : Type 0

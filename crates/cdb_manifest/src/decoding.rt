@@ -8,6 +8,9 @@ ghost use Rattle.cdb_manifest.specs.Decoding.{IsFront, TellsHead, TellsEntry, Te
 
 use crate::entry::entry_at;
 use crate::fields::{after_first, head_at, number_at};
+use crate::limits::{
+    ENTRY_BYTES, FRONT_BYTES, HEAD_BYTES, MOST_SOURCES, MOST_TILES, MOST_VERSIONS,
+};
 use crate::record_::{Heads, Record, Tiles};
 use crate::record_error::RecordError;
 use cdb_grid::Tile;
@@ -32,13 +35,13 @@ fn numbers_at(bytes: &[u8]) -> Result<(Numbers, &[u8]), RecordError>
     let Some(rest) = after_first(bytes) else {
         return Err(RecordError::Bad { place: 0 });
     };
-    let Some((version, rest)) = number_at(rest, 1, 4096) else {
+    let Some((version, rest)) = number_at(rest, 1, MOST_VERSIONS) else {
         return Err(RecordError::Bad { place: 8 });
     };
-    let Some((sources, rest)) = number_at(rest, 1, 64) else {
+    let Some((sources, rest)) = number_at(rest, 1, MOST_SOURCES) else {
         return Err(RecordError::Bad { place: 12 });
     };
-    let Some((tiles, rest)) = number_at(rest, 0, 16384) else {
+    let Some((tiles, rest)) = number_at(rest, 0, MOST_TILES) else {
         return Err(RecordError::Bad { place: 16 });
     };
     let numbers = Numbers {
@@ -64,7 +67,9 @@ fn heads_at(
     let mut rest = bytes;
     for k in 0..count {
         let Some((head, after)) = head_at(rest) else {
-            return Err(RecordError::Bad { place: 20 + 44 * k });
+            return Err(RecordError::Bad {
+                place: FRONT_BYTES + HEAD_BYTES * k,
+            });
         };
         heads.push(head)?;
         rest = after;
@@ -106,12 +111,12 @@ fn entries_at(
     for k in 0..count {
         let Some((tile, after)) = entry_at(rest) else {
             return Err(RecordError::Bad {
-                place: start + 16 * k,
+                place: start + ENTRY_BYTES * k,
             });
         };
         if !comes_after(tiles.as_slice(), &tile) {
             return Err(RecordError::Bad {
-                place: start + 16 * k,
+                place: start + ENTRY_BYTES * k,
             });
         }
         tiles.push(tile)?;
@@ -127,11 +132,11 @@ fn record_of(alloc: Global, bytes: &[u8]) -> Result<Record, RecordError>
 {
     let (numbers, rest) = numbers_at(bytes)?;
     let (heads, rest) = heads_at(alloc, numbers.sources, rest)?;
-    let start = 20 + 44 * numbers.sources;
+    let start = FRONT_BYTES + HEAD_BYTES * numbers.sources;
     let (tiles, rest) = entries_at(alloc, numbers.tiles, start, rest)?;
     if !rest.is_empty() {
         return Err(RecordError::Bad {
-            place: start + 16 * numbers.tiles,
+            place: start + ENTRY_BYTES * numbers.tiles,
         });
     }
     Ok(Record {

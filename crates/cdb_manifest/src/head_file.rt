@@ -2,6 +2,7 @@
 ghost use Rattle.std.specs.Prelude.{◌≡◌, ℕ, ◌≤◌, Some, IfSome};
 ghost use Rattle.cdb_model.specs.Records.{head_file_text};
 
+use crate::limits::MOST_VERSIONS;
 use arrayvec::ArrayString;
 use itoa::Buffer;
 
@@ -26,7 +27,7 @@ pub fn read_head(bytes: &[u8]) -> Option<u32>
 {
     let text = str::from_utf8(bytes).ok()?;
     let n = text.strip_suffix('\n')?.parse::<u32>().ok()?;
-    if n < 1 || n > 4096 {
+    if n < 1 || n > MOST_VERSIONS {
         return None;
     }
     if write_head(n).as_str() != text {

@@ -7,12 +7,14 @@ mod entry;
 mod fields;
 mod head_file;
 pub mod laws;
+mod limits;
 mod record_;
 mod record_error;
 
 pub use decoding::decode;
 pub use encoding::encode;
 pub use head_file::{read_head, write_head};
+pub use limits::{MOST_SOURCES, MOST_TILES, MOST_VERSIONS, RECORD_BYTES};
 pub use record_::{Heads, Record, Tiles};
 pub use record_error::RecordError;
 

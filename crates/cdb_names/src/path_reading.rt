@@ -12,6 +12,9 @@ use crate::reading::{field_of, read_name_in};
 use cdb_grid::{Geocell, Level, Tile, tiles_across};
 use cdb_model::NameError;
 
+/// The greatest version that a store can have.
+const MOST_VERSIONS: u32 = 4_096;
+
 #[tactic(auto, unfolding(crate::specs::Fields::four_at))]
 fn read_four(text: &[u8]) -> Option<(u32, &[u8])>
     ensures read { option_map (λ p. (p.0, p.1.now)) result ≡ four_at text.now }
@@ -29,7 +32,7 @@ fn version(high: u32, low: u32) -> Option<u32>
     ensures { result ≡ version_of high low }
 {
     let version = high * 10000 + low;
-    (0 < version && version <= 4096).then_some(version)
+    (0 < version && version <= MOST_VERSIONS).then_some(version)
 }
 
 #[tactic(auto, unfolding(crate::specs::Fields::version_at))]

@@ -10,10 +10,10 @@ returns-in_default-read_small c =
     let is = word_is (left c.loop-word.left) (left c.in-Some.rest) c.in-Some.word.now c.in-Some.ensures in
     sym (posts_bad (left c.args.words) (bad_word c.loop-word.posts.items _ (left c.loop-word.left) (left c.in-Some.rest) c.in-Some.word.now is c.in_default-read_small.ensures c.loop-word.invariant.all))
 
-pub returns-then-len-eq64 : goal.returns-then-len-eq64
-returns-then-len-eq64 c =
+pub returns-then-len-eq-MOST_POSTS : goal.returns-then-len-eq-MOST_POSTS
+returns-then-len-eq-MOST_POSTS c =
     let is = word_is (left c.loop-word.left) (left c.in-Some.rest) c.in-Some.word.now c.in-Some.ensures in
-    sym (posts_full (left c.args.words) (omega (arith, c.loop-word.invariant.count, ap length is, c.len.ensures.value, c.if-len-eq64.true)))
+    sym (posts_full (left c.args.words) (omega (arith, c.loop-word.invariant.count, ap length is, c.len.ensures.value, c.if-len-eq-MOST_POSTS.true)))
 
 pub returns-then-len-eq0 : goal.returns-then-len-eq0
 returns-then-len-eq0 c =

@@ -3,7 +3,7 @@ use Rattle.std.proofs.lemmas.Str.Pattern.{strip_suffix_char}
 use Rattle.cdb_model.specs.Records.{head_file_text}
 use Rattle.cdb_manifest.proofs.HeadFileLaws.{is_text, no_text, parsed}
 use Rattle.cdb_manifest.proofs.head_file.read_head.Goals as goal
-use Rattle.cdb_manifest.proofs.head_file.read_head.Goals.{then-n-lt1-via-then-n-lt1, then-n-lt1-via-else-n-lt1+then-n-gt4096}
+use Rattle.cdb_manifest.proofs.head_file.read_head.Goals.{then-n-lt1-via-then-n-lt1, then-n-lt1-via-else-n-lt1+then-n-gt-MOST_VERSIONS}
 
 pub returns-in_err-text-clause-only : goal.returns-in_err-text-clause-only
 returns-in_err-text-clause-only c = λ n least most e.
@@ -22,7 +22,7 @@ returns-then-n-lt1-clause-only c = λ n least most e.
     let front = strip_suffix_char 10 c.in_ok-text.text.now (Some c.in_ok-strip_suffix.field-0) c.in_ok-strip_suffix.ensures.cases (omega arith) in
     let read = parsed c.in_ok-strip_suffix.field-0.now n c.parse.result most (sym front ∙ same ∙ e) c.parse.ensures.value.0 in
     let is : c.in_ok-n.n ≡ n = cc (read, c.in_ok-n.ensures.value) in
-    elim c.then-n-lt1.branch [ then-n-lt1-via-then-n-lt1 w ↦ absurd (omega (arith, is, w.if-n-lt1.true)) | then-n-lt1-via-else-n-lt1+then-n-gt4096 w ↦ absurd (omega (arith, is, w.if-n-gt4096.true)) ]
+    elim c.then-n-lt1.branch [ then-n-lt1-via-then-n-lt1 w ↦ absurd (omega (arith, is, w.if-n-lt1.true)) | then-n-lt1-via-else-n-lt1+then-n-gt-MOST_VERSIONS w ↦ absurd (omega (arith, is, w.if-n-gt-MOST_VERSIONS.true)) ]
 
 pub returns-then-ne-clause-only : goal.returns-then-ne-clause-only
 returns-then-ne-clause-only c = λ n least most e.

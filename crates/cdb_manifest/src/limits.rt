@@ -1,0 +1,22 @@
+//! How large a record is at most.
+
+/// The greatest version that a store can have.
+pub const MOST_VERSIONS: u32 = 4_096;
+
+/// The greatest number of sources of a publication.
+pub const MOST_SOURCES: u32 = 64;
+
+/// The greatest number of tiles of a publication.
+pub const MOST_TILES: u32 = 16_384;
+
+/// How many bytes a record has before its heads.
+pub(crate) const FRONT_BYTES: u32 = 20;
+
+/// How many bytes a head has.
+pub(crate) const HEAD_BYTES: u32 = 44;
+
+/// How many bytes the entry of a tile has.
+pub(crate) const ENTRY_BYTES: u32 = 16;
+
+/// How many bytes a record has at most.
+pub const RECORD_BYTES: u32 = FRONT_BYTES + HEAD_BYTES * MOST_SOURCES + ENTRY_BYTES * MOST_TILES;
