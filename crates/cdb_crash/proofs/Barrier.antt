@@ -1,8 +1,8 @@
 -- After a fault without a stop: the sync of the root settles which of the two lists stands.
-use Rattle.std.proofs.Common.{◌≡◌, ◌≢◌, ℕ, ◌⊎◌, inl, inr, List, [], ◌∷◌, ◌++◌, None, Some, sym, ap, ◌∙◌, subst}
+use Rattle.std.proofs.Common.{◌≡◌, ◌≢◌, ℕ, inl, inr, List, [], ◌∷◌, ◌++◌, None, Some, sym, ap, ◌∙◌, subst}
 use mathlib.Core.Path.{fun_ext}
 use Rattle.std.specs.Str.{bytes_eq}
-use Rattle.cdb_model.specs.Maps.{Text, Content, FileMap, IsThere, put}
+use Rattle.cdb_model.specs.Maps.{Content, FileMap, IsThere, put}
 use Rattle.cdb_model.specs.Names.{head_path}
 use Rattle.cdb_model.proofs.MapLaws.{put-same}
 use Rattle.cdb_files.specs.Disk.{State, Possible, IsImage, Allows, after_sync_dir}

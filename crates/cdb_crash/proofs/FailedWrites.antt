@@ -1,12 +1,12 @@
 -- What a write leaves that failed.
-use Rattle.std.proofs.Common.{◌≡◌, ◌≢◌, ℕ, ◌≤◌, ◌⊎◌, inl, inr, List, [], length, take, Bool, None, Some, IsTrue, refl, sym, ap, ◌∙◌, subst, arith}
+use Rattle.std.proofs.Common.{◌≡◌, ℕ, ◌≤◌, ◌⊎◌, inl, inr, List, [], length, take, Bool, None, Some, IsTrue, refl, sym, ap, ◌∙◌, subst, arith}
 use Rattle.std.proofs.lemmas.Bool.{or_left}
-use Rattle.cdb_model.specs.Maps.{Text, Content, FileMap, IsThere, is_at_or_above, put}
+use Rattle.cdb_model.specs.Maps.{Text, Content, FileMap, IsThere, is_at_or_above}
 use Rattle.cdb_model.specs.Names.{new_head_path}
 use Rattle.cdb_model.proofs.MapLaws.{put-same}
-use Rattle.cdb_files.specs.Disk.{State, Fails, FailsMakeDir, after_create, after_make_dir}
+use Rattle.cdb_files.specs.Disk.{State, Fails, after_create, after_make_dir}
 use Rattle.cdb_files.specs.Whole.{FailsFill, FailsWrite, after_pieces}
-use Rattle.cdb_files.proofs.StateLaws.{create-only, fails-only, fails_fill-only, pieces-only, pieces-there, there-create}
+use Rattle.cdb_files.proofs.StateLaws.{create-only, fails-only, fails_fill-only, pieces-only, pieces-there}
 use Rattle.cdb_crash.specs.Crash.{IsClear}
 use Rattle.cdb_crash.specs.StepLaws.{FailedWrite, FailedWrites}
 use Rattle.cdb_crash.proofs.ClearLaws.{clear_but, clear_but_new_head, clear_stays}

@@ -11,7 +11,6 @@ pub mod HeadTexts
 pub mod StoreLaws
 pub mod HeadLaws
 pub mod EmptyLaws
-pub mod SourceTexts
 pub mod FilePaths
 pub mod OneList
 pub mod PlanLists

@@ -1,6 +1,7 @@
 -- A map stands for at most one list.
-use Rattle.std.proofs.Common.{◌≡◌, ℕ, suc, ◌+◌, ◌≤◌, List, [], ◌∷◌, ◌++◌, length, append_assoc, Option, None, Some, refl, sym, ap, ◌∙◌, subst, arith}
+use Rattle.std.proofs.Common.{◌≡◌, ℕ, suc, ◌+◌, ◌≤◌, List, [], ◌∷◌, ◌++◌, length, append_assoc, Option, None, Some, Ok, refl, sym, ap, ◌∙◌, subst, arith}
 use Rattle.std.specs.Prelude.{slice_get}
+use Rattle.cdb_source.proofs.DecodingLaws.{gives}
 use Rattle.cdb_source.specs.Texts.{source_text}
 use Rattle.cdb_source.specs.declared.source.Source.{Source}
 use Rattle.cdb_model.specs.Maps.{Content, FileMap, IsThere}
@@ -11,8 +12,11 @@ use Rattle.cdb_crash.specs.Leftovers.{IsOfVersion}
 use Rattle.cdb_crash.specs.Laws.{OneList}
 use Rattle.cdb_crash.proofs.FilePaths.{file_at_source}
 use Rattle.cdb_crash.proofs.HeadTexts.{head_text_tells, gap, some_same}
-use Rattle.cdb_crash.proofs.SourceTexts.{sources_tell}
 use Rattle.cdb_crash.proofs.StoreLaws.{file_under}
+
+-- The text of a source file tells the source.
+sources_tell : (a b : Source) → source_text a ≡ source_text b → a ≡ b
+sources_tell a b e = sym (gives (source_text a) (Ok b) e tt a refl)
 
 some_source : {A : Type 0} (a b : A) → Some a ≡ Some b → a ≡ b
 some_source {A = A} a b e = ap value e

@@ -7,8 +7,7 @@ use Rattle.cdb_source.specs.Texts.{source_text}
 use Rattle.cdb_source.specs.declared.source.Source.{Source}
 use Rattle.cdb_model.specs.Publications.{sources_of}
 use Rattle.cdb_model.specs.Maps.{Text}
-use Rattle.cdb_model.specs.Names.{source_path, record_path, path}
-use Rattle.cdb_model.specs.TileFile.{tile_bytes}
+use Rattle.cdb_model.specs.Names.{source_path, path}
 use Rattle.cdb_crash.specs.Plan.{File, Step, source_files, tile_file, files_of, record_of, folders_of, steps_of}
 use Rattle.cdb_crash.specs.StepLaws.{Numbers}
 use Rattle.cdb_crash.proofs.PlanLaws.{source_files-count, files-count}

@@ -31,7 +31,7 @@ const PASSES: bool = true;
 const FAILS: bool = false;
 
 /// Over no folder at first.
-static CALLS: [Row; 36] = [
+static CALLS: [Row; 44] = [
     Row("V00000001", FirstUnder(None), PASSES),
     Row("HEAD", Size(None), PASSES),
     Row("a/b", SyncDir, FAILS),
@@ -65,13 +65,21 @@ static CALLS: [Row; 36] = [
     Row("HEAD.tmp", Rename("HEAD"), PASSES),
     Row("HEAD", Size(Some(0)), PASSES),
     Row("HEAD.tmp", Size(None), PASSES),
+    Row("HEAD", Append(b"1\n"), PASSES),
+    Row("HEAD.tmp", Create, PASSES),
+    Row("HEAD.tmp", Append(b"12345"), PASSES),
+    Row("HEAD.tmp", Rename("HEAD"), PASSES),
+    Row("HEAD.tmp", Size(None), PASSES),
+    Row("HEAD", ReadAt(0, b"12345"), PASSES),
+    Row("HEAD", FirstUnder(None), PASSES),
+    Row("HEAD/x", Remove, PASSES),
     Row("a/b/x", Remove, PASSES),
     Row("a/b/x", Remove, PASSES),
     Row("q/x", Remove, PASSES),
 ];
 
 /// Over the files that `lay` lays.
-static SEARCHES: [Row; 19] = [
+static SEARCHES: [Row; 23] = [
     Row("", FirstUnder(Some("HEAD")), PASSES),
     Row("t", FirstUnder(Some("t/a.b")), PASSES),
     Row("t/a.b", Remove, PASSES),
@@ -87,6 +95,10 @@ static SEARCHES: [Row; 19] = [
     Row("t", FirstUnder(Some("t/link")), PASSES),
     Row("t/link", ReadAt(1, b"ource"), PASSES),
     Row("t/link", Remove, PASSES),
+    Row("t", FirstUnder(Some("t/lost")), PASSES),
+    Row("t/lost", Size(None), PASSES),
+    Row("t/lost", MakeDir, FAILS),
+    Row("t/lost", Remove, PASSES),
     Row("t", FirstUnder(None), PASSES),
     Row("linked", FirstUnder(None), PASSES),
     Row("linked/a", Size(Some(6)), PASSES),
@@ -111,6 +123,7 @@ fn lay(rt: &impl Files) -> io::Result<()> {
     fs::write(rt, "tried/cdb/t/a.b", "")?;
     symlink(rt, "../../in/a", "tried/cdb/t/link")?;
     symlink(rt, "../../in", "tried/cdb/t/folder")?;
+    symlink(rt, "nowhere", "tried/cdb/t/lost")?;
     symlink(rt, "../in", "tried/cdb/linked")?;
     symlink(rt, "cdb", "tried/behind")?;
     fs::create_dir_all(rt, DEEP)?;

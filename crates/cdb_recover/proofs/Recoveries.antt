@@ -1,8 +1,8 @@
 -- Recovery of a disk that is whole, and of one that a fault left.
-use Rattle.std.proofs.Common.{◌≡◌, ◌≢◌, ℕ, ◌+◌, inl, inr, List, [], ◌∷◌, ◌++◌, None, Some, Result, Ok, Err, OnOk, refl}
+use Rattle.std.proofs.Common.{◌≡◌, ◌≢◌, ℕ, ◌+◌, ◌⊎◌, inl, inr, List, [], ◌∷◌, ◌++◌, None, Some, Result, Ok, Err, IfOk, OnOk, refl}
 use Rattle.std.proofs.Common.{sym, ap, ◌∙◌, subst, arith}
 use Rattle.cdb_source.specs.declared.source.Source.{Source}
-use Rattle.cdb_model.specs.Maps.{Text, Content, FileMap, IsThere}
+use Rattle.cdb_model.specs.Maps.{Text, Content, FileMap, IsThere, NoneUnder}
 use Rattle.cdb_model.specs.Names.{version_folder, head_path, new_head_path}
 use Rattle.cdb_model.specs.Stands.{Stands}
 use Rattle.cdb_files.specs.Disk.{State, IsImage, after_sync_dir, after_remove}
@@ -10,14 +10,15 @@ use Rattle.cdb_files.specs.Moments.{Elapses, AddsOnly, IsBetween}
 use Rattle.cdb_files.specs.Whole.{WritesOnly}
 use Rattle.cdb_files.proofs.MomentLaws.{started, goes_on, then_on, weaker}
 use Rattle.cdb_crash.specs.Crash.{IsWhole, IsEither, IsFaulted}
-use Rattle.cdb_crash.specs.Leftovers.{IsOfVersion, HasAtMost}
+use Rattle.cdb_crash.specs.Leftovers.{IsOfVersion, IsLeftover, HasAtMost}
 use Rattle.cdb_crash.proofs.Clearing.{removed-at}
 use Rattle.cdb_crash.proofs.HeadTexts.{head_text_tells}
 use Rattle.cdb_crash.proofs.Own as own
-use Rattle.cdb_crash.proofs.Paths.{not_new_head}
+use Rattle.cdb_crash.proofs.Paths.{not_new_head, at_most-none, at_most-wider}
 use Rattle.cdb_crash.proofs.Possible.{sync_dir-present}
-use Rattle.cdb_recover.specs.Answers.{IsAnswer, IsCleared, IsNewest, NamesNone, KeepsVersions, KeepsStore}
-use Rattle.cdb_recover.specs.Clearing.{IsSameBeside}
+use Rattle.cdb_recover.specs.Answers.{IsAnswer, IsCleared, IsNewest, NamesNone, HasNoLeftover, RemovesLeftovers, KeepsStore}
+use Rattle.cdb_recover.proofs.Removals.{others_stay}
+use Rattle.cdb_recover.specs.Clearing.{RemovesOne, RemovesUnder}
 use Rattle.cdb_recover.specs.declared.recover_error.RecoverError.{RecoverError}
 use Rattle.cdb_recover.specs.declared.recover_error.RecoverError.TheVariants.{Fault, NotAStore}
 
@@ -48,15 +49,60 @@ cleared-moved newest old new result same = of result
         ((λ few. many (at_most-moved (newest + 1) new old (λ q under. sym (at q under)) few)), version_is, place_is)
     of (Err Fault) h = tt
 
-pub kept-after : (newest : ℕ) (old middle new : FileMap) → ((q : Text) → q ≢ new_head_path → middle q ≡ old q)
-    → IsSameBeside (version_folder (newest + 1)) middle new → KeepsVersions newest old new
-kept-after newest old middle new same beside q ne out = beside q out ∙ same q ne
+-- Nothing was removed.
+pub none_left_over : (newest : ℕ) (m : FileMap) → RemovesLeftovers newest m m
+none_left_over newest m = record {
+  each = λ q. inl refl;
+  few = at_most-none 65536 (λ q. IsOfVersion (newest + 1) q × (m q ≢ m q)) (λ q changed. changed.1 refl);
+}
 
--- The new head stays as it is where files under a version go.
-pub new_head-beside : (newest : ℕ) (old new : FileMap) → IsSameBeside (version_folder (newest + 1)) old new
-    → new new_head_path ≡ old new_head_path
-new_head-beside newest old new beside =
-    beside new_head_path (λ under. not_new_head (newest + 1) new_head_path under refl)
+-- The new head alone is removed, or stays.
+pub new_head_alone : (newest : ℕ) (old new : FileMap) → RemovesOne new_head_path old new
+    → RemovesLeftovers newest old new
+new_head_alone newest old new removed = record {
+  each = λ q. of q (removed q);
+  few = at_most-none 65536 (λ q. IsOfVersion (newest + 1) q × (new q ≢ old q))
+      (λ q changed. changed.1 (others_stay new_head_path old new removed q (not_new_head (newest + 1) q changed.0)));
+}
+  where
+    of : (q : Text) → (new q ≡ old q) ⊎ ((q ≡ new_head_path) × (new q ≡ None))
+        → (new q ≡ old q) ⊎ (IsLeftover newest q × (new q ≡ None))
+    of q (inl e) = inl e
+    of q (inr (is, gone)) = inr ((inl is, gone))
+
+-- The new head, and then files under the next version.
+pub removed-after : (newest : ℕ) (old middle new : FileMap) → RemovesOne new_head_path old middle
+    → RemovesUnder 65536 (version_folder (newest + 1)) middle new → RemovesLeftovers newest old new
+removed-after newest old middle new first second = record {
+  each = λ q. of q (first q) (second.each q);
+  few = at_most-wider 65536 65536 (λ q. new q ≢ middle q) (λ q. IsOfVersion (newest + 1) q × (new q ≢ old q))
+      (omega arith)
+      (λ q changed e. changed.1
+      (e ∙ others_stay new_head_path old middle first q (not_new_head (newest + 1) q changed.0)))
+      second.few;
+}
+  where
+    of : (q : Text) → (middle q ≡ old q) ⊎ ((q ≡ new_head_path) × (middle q ≡ None))
+        → (new q ≡ middle q) ⊎ (IsOfVersion (newest + 1) q × (new q ≡ None))
+        → (new q ≡ old q) ⊎ (IsLeftover newest q × (new q ≡ None))
+    of q before (inr (under, gone)) = inr ((inr under, gone))
+    of q (inl same) (inl e) = inl (e ∙ same)
+    of q (inr (is, gone)) (inl e) = inr ((inl is, e ∙ gone))
+
+-- The new head is gone, and then no file is left under the next version.
+pub no_leftover : (newest : ℕ) (middle new : FileMap) → middle new_head_path ≡ None
+    → RemovesUnder 65536 (version_folder (newest + 1)) middle new
+    → NoneUnder new (version_folder (newest + 1)) → HasNoLeftover new newest
+no_leftover newest middle new gone removed none q = of
+  where
+    head : (new new_head_path ≡ middle new_head_path)
+        ⊎ (IsOfVersion (newest + 1) new_head_path × (new new_head_path ≡ None)) → new new_head_path ≡ None
+    head (inl e) = e ∙ gone
+    head (inr (under, e)) = e
+
+    of : IsLeftover newest q → new q ≡ None
+    of (inl is) = ap new is ∙ head (removed.each new_head_path)
+    of (inr under) = none q under
 
 pub answered : (m : FileMap) (newest : ℕ) (result : Result ℕ RecoverError) → IsNewest (m head_path) newest
     → IsCleared newest m result → IsAnswer m result
@@ -77,21 +123,26 @@ not_both : (content : Content) (newest : ℕ) → IsNewest content newest → Na
 not_both None newest named none = none
 not_both (Some bytes) newest (least, most, is) none = none newest least most is
 
-pub keeps_named : (newest : ℕ) (old new : FileMap) → IsNewest (old head_path) newest → KeepsVersions newest old new
+pub keeps_named : (newest : ℕ) (old new : FileMap) → IsNewest (old head_path) newest
+    → RemovesLeftovers newest old new
     → KeepsStore old new
 keeps_named newest old new named kept = record {
-  named = λ other is. let K : ℕ → Type 0 = λ n. KeepsVersions n old new in
+  named = λ other is. let K : ℕ → Type 0 = λ n. RemovesLeftovers n old new in
       subst K (one_newest (old head_path) newest other named is) kept;
   unnamed = λ none. absurd (not_both (old head_path) newest named none);
 }
 
 pub keeps_all : (m : FileMap) → KeepsStore m m
-keeps_all m = record { named = λ newest is q ne out. refl; unnamed = λ none q. refl }
+keeps_all m = record { named = λ newest is. none_left_over newest m; unnamed = λ none q. refl }
 
--- What holds in any case holds of a value.
-pub of_ok : {T E : Type 0} (r : Result T E) (Q : Type 0) → Q → OnOk r Q
-of_ok (Ok v) Q holds = holds
-of_ok (Err e) Q holds = tt
+-- What follows of a value.
+pub if_ok : {T E : Type 0} (r : Result T E) (P Q : Type 0) → (P → Q) → OnOk r P → OnOk r Q
+if_ok (Ok v) P Q follows holds = follows holds
+if_ok (Err e) P Q follows holds = tt
+
+pub ok_of : {T E : Type 0} (r : Result T E) (Q : T → Type 0) (v : T) → IfOk r (λ w. w ≡ v) → OnOk r (Q v) → IfOk r Q
+ok_of (Ok w) Q v same holds = subst Q (sym same) holds
+ok_of (Err e) Q v same holds = tt
 
 -- ---- over any disk
 module _ {D : Type 0} (clock : D → ℕ) (since : D → ℕ → FileMap → Type 0) (state : D → State) (a b : D)

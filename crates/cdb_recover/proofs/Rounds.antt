@@ -1,7 +1,7 @@
 -- The rounds of removals, over any disk.
-use Rattle.std.proofs.Common.{◌≡◌, ℕ, ◌+◌, ◌-◌, ◌≤◌, inr, List, length, None, IsTrue, refl, sym, ◌∙◌, subst, arith}
+use Rattle.std.proofs.Common.{◌≡◌, ℕ, ◌+◌, ◌-◌, ◌≤◌, inr, List, length, None, sym, subst, arith}
 use Rattle.cdb_source.specs.declared.source.Source.{Source}
-use Rattle.cdb_model.specs.Maps.{Text, FileMap, IsThere, is_under}
+use Rattle.cdb_model.specs.Maps.{Text, FileMap, IsThere}
 use Rattle.cdb_model.specs.Stands.{AtMost, Stands}
 use Rattle.cdb_files.specs.Disk.{State, IsImage}
 use Rattle.cdb_files.specs.Moments.{AddsOnly, Rests}
@@ -11,14 +11,14 @@ use Rattle.cdb_crash.specs.Crash.{IsWhole, IsClearing}
 use Rattle.cdb_crash.specs.Leftovers.{IsOfVersion}
 use Rattle.cdb_crash.specs.Recovery.{after_removal}
 use Rattle.cdb_crash.proofs.Own as own
-use Rattle.cdb_recover.specs.Clearing.{IsLeft, IsSameBut, IsSameBeside}
-use Rattle.cdb_recover.proofs.Removals.{one_removed, one_back}
+use Rattle.cdb_recover.specs.Clearing.{IsLeft, RemovesOne, RemovesUnder}
+use Rattle.cdb_recover.proofs.Removals.{one_removed, one_back, none_removed, one_more}
 
 -- How many files are left, from a map to a later one, after so many removals.
 pub record Counted (folder : Text) (old new : FileMap) (rounds : ℕ) : Type 0 where
   pub fewer : (n : ℕ) → AtMost n (IsLeft folder old) → AtMost (n - rounds) (IsLeft folder new)
   pub back : (n : ℕ) → AtMost n (IsLeft folder new) → AtMost (n + rounds) (IsLeft folder old)
-  pub beside : IsSameBeside folder old new
+  pub removed : RemovesUnder rounds folder old new
 
 pub none_counted : (folder : Text) (m : FileMap) → Counted folder m m 0
 none_counted folder m = record {
@@ -26,25 +26,20 @@ none_counted folder m = record {
       subst A e most;
   back = λ n most. let A : ℕ → Type 0 = λ k. AtMost k (IsLeft folder m) in let e : n ≡ n + 0 = omega arith in
       subst A e most;
-  beside = λ q out. refl;
+  removed = none_removed folder m;
 }
 
-pub same_beside : (folder path : Text) (first old new : FileMap) → IsTrue (is_under folder path)
-    → IsSameBeside folder first old → IsSameBut path old new → IsSameBeside folder first new
-same_beside folder path first old new under beside same q out =
-    same q (λ e. let U : Text → Type 0 = λ t. IsTrue (is_under folder t) in out (subst U (sym e) under)) ∙ beside q out
-
 pub one_counted : (folder path : Text) (first old new : FileMap) (rounds : ℕ) → IsLeft folder old path
-    → Counted folder first old rounds → IsSameBut path old new → new path ≡ None
+    → Counted folder first old rounds → RemovesOne path old new → new path ≡ None
     → Counted folder first new (rounds + 1)
-one_counted folder path first old new rounds left counted same gone = record {
+one_counted folder path first old new rounds left counted removed gone = record {
   fewer = λ n most. let A : ℕ → Type 0 = λ k. AtMost k (IsLeft folder new) in
       let e : (n - rounds) - 1 ≡ n - (rounds + 1) = omega arith in
-      subst A e (one_removed folder path old new (n - rounds) left same gone (counted.fewer n most));
+      subst A e (one_removed folder path old new (n - rounds) left removed gone (counted.fewer n most));
   back = λ n most. let A : ℕ → Type 0 = λ k. AtMost k (IsLeft folder first) in
       let e : (n + 1) + rounds ≡ n + (rounds + 1) = omega arith in
-      subst A e (counted.back (n + 1) (one_back folder path old new n same most));
-  beside = same_beside folder path first old new left.0 counted.beside same;
+      subst A e (counted.back (n + 1) (one_back folder path old new n removed most));
+  removed = one_more rounds folder path first old new left.0 counted.removed removed;
 }
 
 module _ {D : Type 0} (clock : D → ℕ) (since : D → ℕ → FileMap → Type 0) (state : D → State) where

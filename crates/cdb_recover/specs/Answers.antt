@@ -2,12 +2,12 @@
 use Rattle.std.specs.Prelude.{◌≡◌, ◌≢◌, ℕ, ◌+◌, ◌≤◌, ◌⊎◌, List, length, None, Some, Result, Ok, Err}
 use Rattle.cdb_source.specs.declared.source.Source.{Source}
 use Rattle.cdb_model.specs.Maps.{Text, Content, FileMap}
-use Rattle.cdb_model.specs.Names.{head_path, new_head_path}
+use Rattle.cdb_model.specs.Names.{head_path}
 use Rattle.cdb_model.specs.Records.{head_file_text}
-use Rattle.cdb_model.specs.Stands.{Stands}
+use Rattle.cdb_model.specs.Stands.{AtMost, Stands}
 use Rattle.cdb_files.specs.Disk.{State}
 use Rattle.cdb_crash.specs.Crash.{IsClean}
-use Rattle.cdb_crash.specs.Leftovers.{IsOfVersion, HasAtMost}
+use Rattle.cdb_crash.specs.Leftovers.{IsOfVersion, IsLeftover, HasAtMost}
 use Rattle.cdb_recover.specs.declared.recover_error.RecoverError.{RecoverError}
 use Rattle.cdb_recover.specs.declared.recover_error.RecoverError.TheVariants.{Fault, NotAStore}
 
@@ -53,11 +53,16 @@ IsAnswer m (Err Fault) = Unit {0}
 abbrev pub IsRecovered : State → List (List Source) → ℕ → Type 0
 IsRecovered s list newest = (newest ≡ length list) × IsClean Stands list s
 
--- All stays but the new head and the files under the version after the newest.
-abbrev pub KeepsVersions : ℕ → FileMap → FileMap → Type 0
-KeepsVersions newest old new = (q : Text) → q ≢ new_head_path → (IsOfVersion (newest + 1) q → ⊥) → new q ≡ old q
+-- No leftover of a store of so many versions is there.
+abbrev pub HasNoLeftover : FileMap → ℕ → Type 0
+HasNoLeftover m newest = (q : Text) → IsLeftover newest q → m q ≡ None
+
+-- Leftovers are removed, at most 65,536 of them under the version after the newest, and no other path has changed.
+pub record RemovesLeftovers (newest : ℕ) (old new : FileMap) : Type 0 where
+  pub each : (q : Text) → (new q ≡ old q) ⊎ (IsLeftover newest q × (new q ≡ None))
+  pub few : AtMost 65536 (λ q. IsOfVersion (newest + 1) q × (new q ≢ old q))
 
 -- So it is where a newest version is named, and where none is all stays.
 pub record KeepsStore (old new : FileMap) : Type 0 where
-  pub named : (newest : ℕ) → IsNewest (old head_path) newest → KeepsVersions newest old new
+  pub named : (newest : ℕ) → IsNewest (old head_path) newest → RemovesLeftovers newest old new
   pub unnamed : NamesNone (old head_path) → (q : Text) → new q ≡ old q

@@ -1,18 +1,19 @@
 -- The removal of all files under a folder.
-use Rattle.std.specs.Prelude.{◌≡◌, ◌≢◌, Bool, true, false, List, IsTrue}
+use Rattle.std.specs.Prelude.{◌≡◌, ◌≢◌, ℕ, ◌⊎◌, Bool, true, false, List, None, IsTrue}
 use Rattle.cdb_source.specs.declared.source.Source.{Source}
-use Rattle.cdb_model.specs.Maps.{Text, FileMap, IsThere, is_under}
+use Rattle.cdb_model.specs.Maps.{Text, FileMap, IsThere, is_under, NoneUnder}
 use Rattle.cdb_model.specs.Stands.{AtMost, Stands}
 use Rattle.cdb_files.specs.Disk.{State}
 use Rattle.cdb_crash.specs.Crash.{IsClean}
 
--- Two maps that differ at one path at most.
-abbrev pub IsSameBut : Text → FileMap → FileMap → Type 0
-IsSameBut path old new = (q : Text) → q ≢ path → new q ≡ old q
+-- One file is removed, or stays, and no other path has changed.
+abbrev pub RemovesOne : Text → FileMap → FileMap → Type 0
+RemovesOne path old new = (q : Text) → (new q ≡ old q) ⊎ ((q ≡ path) × (new q ≡ None))
 
--- Two maps that differ under one folder at most.
-abbrev pub IsSameBeside : Text → FileMap → FileMap → Type 0
-IsSameBeside folder old new = (q : Text) → (IsTrue (is_under folder q) → ⊥) → new q ≡ old q
+-- Files under a folder are removed, at most so many, and no other path has changed.
+pub record RemovesUnder (most : ℕ) (folder : Text) (old new : FileMap) : Type 0 where
+  pub each : (q : Text) → (new q ≡ old q) ⊎ (IsTrue (is_under folder q) × (new q ≡ None))
+  pub few : AtMost most (λ q. new q ≢ old q)
 
 -- A file lies under the folder.
 abbrev pub IsLeft : Text → FileMap → Text → Type 0
@@ -22,6 +23,11 @@ IsLeft folder m q = IsTrue (is_under folder q) × IsThere (m q)
 abbrev pub TellsFew : Text → FileMap → Bool → Type 0
 TellsFew folder m true = AtMost 65536 (IsLeft folder m)
 TellsFew folder m false = AtMost 65536 (IsLeft folder m) → ⊥
+
+-- Whether no file is left under the folder.
+abbrev pub TellsNone : Text → FileMap → Bool → Type 0
+TellsNone folder m true = NoneUnder m folder
+TellsNone folder m false = NoneUnder m folder → ⊥
 
 -- None is left, and the disk is clean for the list.
 abbrev pub Clears : List (List Source) → State → Bool → Type 0

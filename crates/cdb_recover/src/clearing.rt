@@ -7,7 +7,7 @@ ghost use Rattle.cdb_files.specs.Moments.{AddsOnly};
 ghost use Rattle.cdb_files.specs.Whole.{IsImageBut};
 ghost use Rattle.cdb_crash.specs.Crash.{IsWhole};
 ghost use Rattle.cdb_crash.specs.Recovery.{after_removal};
-ghost use Rattle.cdb_recover.specs.Clearing.{IsSameBut, IsSameBeside, TellsFew, Clears};
+ghost use Rattle.cdb_recover.specs.Clearing.{RemovesOne, RemovesUnder, TellsFew, TellsNone, Clears};
 
 use cdb_files::{Disk, Failed, Path, folder_above};
 
@@ -18,7 +18,8 @@ pub(crate) const MOST: u32 = 65_536;
 fn remove_kept<D: Disk>(disk: &mut D, path: &Path) -> Result<(), Failed>
     ensures ok { D.tells → OnOk result (D.state disk.new ≡ after_removal path.now.bytes (D.state disk.old)) }
     ensures time { D.tells → AddsOnly D.clock D.since disk.old disk.new (IsImageBut path.now.bytes (D.state disk.old)) }
-    ensures present { D.tells → IsSameBut path.now.bytes (D.state disk.old).present (D.state disk.new).present }
+    ensures removed { D.tells → RemovesOne path.now.bytes (D.state disk.old).present (D.state disk.new).present }
+    ensures folders { D.tells → (D.state disk.new).made ≡ (D.state disk.old).made }
     ensures cause { HasCause (D.fault_count disk.old) (D.fault_count disk.new) result }
     ensures reads { D.read_count disk.new ≡ D.read_count disk.old }
 {
@@ -36,7 +37,10 @@ pub(crate) fn clear<D: Disk>(disk: &mut D, folder: &Path) -> Result<bool, Failed
     ensures clean { D.tells → (list : List (List Source)) → folder.now.bytes ≡ version_folder (length list + 1)
         → IsWhole Stands list (D.state disk.old) → IfOk result (Clears list (D.state disk.new)) }
     ensures few { D.tells → IfOk result (TellsFew folder.now.bytes (D.state disk.old).present) }
-    ensures beside { D.tells → IsSameBeside folder.now.bytes (D.state disk.old).present (D.state disk.new).present }
+    ensures none { D.tells → IfOk result (TellsNone folder.now.bytes (D.state disk.new).present) }
+    ensures removed { D.tells
+        → RemovesUnder 65536 folder.now.bytes (D.state disk.old).present (D.state disk.new).present }
+    ensures folders { D.tells → (D.state disk.new).made ≡ (D.state disk.old).made }
     ensures cause { HasCause (D.fault_count disk.old) (D.fault_count disk.new) result }
     ensures reads { D.read_count disk.new ≡ D.read_count disk.old }
 {

@@ -1,12 +1,13 @@
-ghost use Rattle.std.specs.Prelude.{◌≡◌, ◌≤◌, ◌+◌, ◌++◌, ◌∷◌, [], None, Err, List, length, IfOk, IfErr, OnOk};
+ghost use Rattle.std.specs.Prelude.{◌≡◌, ◌≤◌, ◌+◌, ◌++◌, ◌∷◌, [], Err, List, length, IfOk, IfErr, OnOk};
 ghost use Rattle.cdb_source.specs.declared.source.Source.{Source};
 ghost use Rattle.cdb_model.specs.Causes.{Rose};
-ghost use Rattle.cdb_model.specs.Names.{version_folder, new_head_path};
+ghost use Rattle.cdb_model.specs.Maps.{NoneUnder};
+ghost use Rattle.cdb_model.specs.Names.{version_folder};
 ghost use Rattle.cdb_model.specs.Stands.{Stands};
 ghost use Rattle.cdb_files.specs.Moments.{AddsOnly};
 ghost use Rattle.cdb_crash.specs.Crash.{IsWhole, IsEither, IsFaulted};
-ghost use Rattle.cdb_recover.specs.Clearing.{IsSameBeside};
-ghost use Rattle.cdb_recover.specs.Answers.{IsAnswer, IsCleared, IsRecovered, KeepsVersions, KeepsStore};
+ghost use Rattle.cdb_recover.specs.Clearing.{RemovesUnder};
+ghost use Rattle.cdb_recover.specs.Answers.{IsAnswer, IsCleared, IsRecovered, HasNoLeftover, RemovesLeftovers, KeepsStore};
 
 use crate::calls::{remove_new_head, sync_root};
 use crate::clearing::{MOST, clear};
@@ -25,8 +26,10 @@ fn clear_next<D: Disk>(disk: &mut D, newest: u32) -> Result<u32, RecoverError>
         → IsWhole Stands list (D.state disk.old)
         → AddsOnly D.clock D.since disk.old disk.new (λ m. Stands m list) }
     ensures answer { D.tells → IsCleared newest (D.state disk.old).present result }
-    ensures beside { D.tells
-        → IsSameBeside (version_folder (newest + 1)) (D.state disk.old).present (D.state disk.new).present }
+    ensures left { D.tells → OnOk result (NoneUnder (D.state disk.new).present (version_folder (newest + 1))) }
+    ensures removed { D.tells
+        → RemovesUnder 65536 (version_folder (newest + 1)) (D.state disk.old).present (D.state disk.new).present }
+    ensures folders { D.tells → (D.state disk.new).made ≡ (D.state disk.old).made }
     ensures number { IfOk result (λ version. version ≡ newest) }
     ensures later { D.fault_count disk.old ≤ D.fault_count disk.new }
     ensures failed { result ≡ Err RecoverError.Fault → Rose (D.fault_count disk.old) (D.fault_count disk.new) }
@@ -52,8 +55,9 @@ fn clear_after<D: Disk>(disk: &mut D, newest: u32) -> Result<u32, RecoverError>
         → IsWhole Stands list (D.state disk.old)
         → AddsOnly D.clock D.since disk.old disk.new (λ m. Stands m list) }
     ensures answer { D.tells → IsCleared newest (D.state disk.old).present result }
-    ensures kept { D.tells → KeepsVersions newest (D.state disk.old).present (D.state disk.new).present }
-    ensures new_head { D.tells → OnOk result ((D.state disk.new).present new_head_path ≡ None) }
+    ensures kept { D.tells → RemovesLeftovers newest (D.state disk.old).present (D.state disk.new).present }
+    ensures left { D.tells → OnOk result (HasNoLeftover (D.state disk.new).present newest) }
+    ensures folders { D.tells → (D.state disk.new).made ≡ (D.state disk.old).made }
     ensures number { IfOk result (λ version. version ≡ newest) }
     ensures later { D.fault_count disk.old ≤ D.fault_count disk.new }
     ensures failed { result ≡ Err RecoverError.Fault → Rose (D.fault_count disk.old) (D.fault_count disk.new) }
@@ -73,7 +77,8 @@ fn settle<D: Disk>(disk: &mut D) -> Result<u32, RecoverError>
         → AddsOnly D.clock D.since disk.old disk.new (λ m. Stands m list) }
     ensures answer { D.tells → IsAnswer (D.state disk.old).present result }
     ensures kept { D.tells → KeepsStore (D.state disk.old).present (D.state disk.new).present }
-    ensures new_head { D.tells → OnOk result ((D.state disk.new).present new_head_path ≡ None) }
+    ensures left { D.tells → IfOk result (HasNoLeftover (D.state disk.new).present) }
+    ensures folders { D.tells → (D.state disk.new).made ≡ (D.state disk.old).made }
     ensures most { IfOk result (λ newest. newest ≤ 4096) }
     ensures later { D.fault_count disk.old ≤ D.fault_count disk.new }
     ensures failed { result ≡ Err RecoverError.Fault → Rose (D.fault_count disk.old) (D.fault_count disk.new) }
@@ -111,7 +116,8 @@ pub fn recover<D: Disk>(disk: &mut D) -> Result<u32, RecoverError>
     ensures store { D.tells → (list : List (List Source)) → Stands (D.state disk.old).present list
         → IfErr result (λ error. error ≡ RecoverError.Fault) }
     ensures kept { D.tells → KeepsStore (D.state disk.old).present (D.state disk.new).present }
-    ensures new_head { D.tells → OnOk result ((D.state disk.new).present new_head_path ≡ None) }
+    ensures left { D.tells → IfOk result (HasNoLeftover (D.state disk.new).present) }
+    ensures folders { D.tells → (D.state disk.new).made ≡ (D.state disk.old).made }
     ensures most { IfOk result (λ newest. newest ≤ 4096) }
     ensures later { D.fault_count disk.old ≤ D.fault_count disk.new }
     ensures failed { result ≡ Err RecoverError.Fault → Rose (D.fault_count disk.old) (D.fault_count disk.new) }

@@ -13,6 +13,7 @@ invariant-rounds g l = record {
       → Sofar g.D.Disk.clock g.D.Disk.since g.D.Disk.state list (65536 - l.counter) l.fn.disk l.disk;
   counted : g.D.Disk.tells → Counted l.folder.bytes (g.D.Disk.state l.fn.disk).present (g.D.Disk.state l.disk).present
       l.counter;
+  folders : g.D.Disk.tells → (g.D.Disk.state l.disk).made ≡ (g.D.Disk.state l.fn.disk).made;
   later : g.D.Disk.fault_count l.fn.disk ≤ g.D.Disk.fault_count l.disk;
   reads : g.D.Disk.read_count l.disk ≡ g.D.Disk.read_count l.fn.disk;
 }

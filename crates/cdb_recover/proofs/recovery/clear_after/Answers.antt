@@ -1,7 +1,7 @@
 use Rattle.std.proofs.Common.{◌∙◌}
 use Rattle.cdb_model.specs.Stands.{Stands}
 use Rattle.cdb_files.proofs.MomentLaws.{then_on}
-use Rattle.cdb_recover.proofs.Recoveries.{of_ok, cleared-moved, new_head-beside, new_head_goes, new_head_gone}
+use Rattle.cdb_recover.proofs.Recoveries.{cleared-moved, new_head_goes, new_head_gone, new_head_alone, removed-after, no_leftover, if_ok}
 use Rattle.cdb_recover.proofs.Recoveries.{whole_without}
 use Rattle.cdb_recover.proofs.recovery.clear_after.Goals as goal
 
@@ -30,13 +30,27 @@ returns-in-Ok-clause-answer g c told =
     c.clear_next.result
     (c.remove_new_head.ensures.only told).only.present (c.clear_next.ensures.answer told)
 
-pub returns-in-Ok-clause-new_head : goal.returns-in-Ok-clause-new_head
-returns-in-Ok-clause-new_head g c told =
+pub returns-in-Ok-clause-kept : goal.returns-in-Ok-clause-kept
+returns-in-Ok-clause-kept g c told =
+    let state = g.D.Disk.state in
+    removed-after c.args.newest (state c.args.disk.now).present (state c.remove_new_head.new.disk).present
+    (state c.clear_next.new.disk).present
+    (c.remove_new_head.ensures.removed told) (c.clear_next.ensures.removed told)
+
+pub returns-in-Ok-clause-left : goal.returns-in-Ok-clause-left
+returns-in-Ok-clause-left g c told =
     let clock = g.D.Disk.clock in let since = g.D.Disk.since in let state = g.D.Disk.state in
     let disk = c.args.disk.now in let one = c.remove_new_head.new.disk in let two = c.clear_next.new.disk in
     let here = g.met.D.Disk.present_possible disk told in
-    of_ok _ _ (new_head-beside c.args.newest (state one).present (state two).present (c.clear_next.ensures.beside told)
-    ∙ new_head_gone clock since state disk one here (c.in-Ok.ensures.ok told))
+    if_ok c.clear_next.result _ _ (no_leftover c.args.newest (state one).present (state two).present
+    (new_head_gone clock since state disk one here (c.in-Ok.ensures.ok told)) (c.clear_next.ensures.removed told))
+    (c.clear_next.ensures.left told)
+
+pub returns-in-Err-clause-kept : goal.returns-in-Err-clause-kept
+returns-in-Err-clause-kept g c told =
+    let state = g.D.Disk.state in
+    new_head_alone c.args.newest (state c.args.disk.now).present (state c.remove_new_head.new.disk).present
+    (c.remove_new_head.ensures.removed told)
 
 pub returns-in-Err-clause-moments : goal.returns-in-Err-clause-moments
 returns-in-Err-clause-moments g c told list is whole =
@@ -44,3 +58,7 @@ returns-in-Err-clause-moments g c told list is whole =
     let disk = c.args.disk.now in let one = c.remove_new_head.new.disk in
     let here = g.met.D.Disk.present_possible disk told in
     new_head_goes clock since state disk one here list whole (c.remove_new_head.ensures.only told)
+
+pub returns-in-Ok-clause-folders : goal.returns-in-Ok-clause-folders
+returns-in-Ok-clause-folders g c told =
+    c.clear_next.ensures.folders told ∙ c.remove_new_head.ensures.folders told

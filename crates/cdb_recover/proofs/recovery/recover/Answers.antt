@@ -1,4 +1,4 @@
-use Rattle.std.proofs.Common.{◌++◌, ◌∷◌, [], subst}
+use Rattle.std.proofs.Common.{◌++◌, ◌∷◌, [], ◌∙◌, subst}
 use Rattle.cdb_model.specs.Maps.{FileMap}
 use Rattle.cdb_model.specs.Stands.{Stands}
 use Rattle.cdb_files.proofs.MomentLaws.{then_on}
@@ -87,3 +87,6 @@ returns-in-Err-clause-fault_moments g c told list x faulted =
     let disk = c.args.disk.now in let one = c.sync_root.new.disk in
     let here = g.met.D.Disk.present_possible disk told in
     root_synced clock since state disk one here (IsEither Stands list x) faulted.either (c.sync_root.ensures.time told)
+
+pub returns-in-Ok-clause-folders : goal.returns-in-Ok-clause-folders
+returns-in-Ok-clause-folders g c told = c.settle.ensures.folders told ∙ c.sync_root.ensures.folders told

@@ -1,11 +1,11 @@
-use Rattle.std.proofs.Common.{sym, subst}
+use Rattle.std.proofs.Common.{sym, ap, ◌∙◌, subst}
 use Rattle.cdb_model.specs.Stands.{Stands}
 use Rattle.cdb_files.specs.Disk.{State}
 use Rattle.cdb_files.proofs.MomentLaws.{started, rests, then_on}
 use Rattle.cdb_crash.specs.Crash.{IsWhole}
-use Rattle.cdb_recover.specs.Answers.{KeepsVersions}
+use Rattle.cdb_recover.specs.Answers.{HasNoLeftover, RemovesLeftovers}
 use Rattle.cdb_recover.proofs.HeadLaws.{newest_is}
-use Rattle.cdb_recover.proofs.Recoveries.{keeps_named}
+use Rattle.cdb_recover.proofs.Recoveries.{keeps_named, ok_of}
 use Rattle.cdb_recover.proofs.recovery.settle.Goals as goal
 
 pub returns-in-Ok-clause-clean : goal.returns-in-Ok-clause-clean
@@ -34,6 +34,18 @@ returns-in-Ok-clause-moments g c told list whole =
 pub returns-in-Ok-clause-kept : goal.returns-in-Ok-clause-kept
 returns-in-Ok-clause-kept g c told =
     let state = g.D.Disk.state in let two = c.clear_after.new.disk in
-    let K : State → Type 0 = λ s. KeepsVersions c.in-Ok.newest s.present (state two).present in
+    let K : State → Type 0 = λ s. RemovesLeftovers c.in-Ok.newest s.present (state two).present in
     keeps_named c.in-Ok.newest (state c.args.disk.now).present (state two).present (c.in-Ok.ensures.read told)
     (subst K c.newest.ensures.state (c.clear_after.ensures.kept told))
+
+pub returns-in-Ok-clause-left : goal.returns-in-Ok-clause-left
+returns-in-Ok-clause-left g c told =
+    ok_of c.clear_after.result (HasNoLeftover (g.D.Disk.state c.clear_after.new.disk).present) c.in-Ok.newest
+    c.clear_after.ensures.number (c.clear_after.ensures.left told)
+
+pub returns-in-Ok-clause-folders : goal.returns-in-Ok-clause-folders
+returns-in-Ok-clause-folders g c told =
+    c.clear_after.ensures.folders told ∙ ap (λ (s : State). s.made) c.newest.ensures.state
+
+pub returns-in-Err-clause-folders : goal.returns-in-Err-clause-folders
+returns-in-Err-clause-folders g c told = ap (λ (s : State). s.made) c.newest.ensures.state
