@@ -7,19 +7,16 @@ ghost use Rattle.cdb_grid.specs.Tiles.{tile_side};
 ghost use Rattle.cdb_grid.specs.declared.tile.Tile as grid;
 ghost use Rattle.cdb_cut.specs.Laws.{IsOwn, IsExtreme};
 ghost use Rattle.cdb_cut.specs.OneTile.{four_rule, IsFrameOf, IsFolded, IsWholeFolded};
-ghost use Rattle.cdb_publish.specs.Folding.{IsPlain, AreChildren};
-ghost use Rattle.cdb_publish.specs.TileFiles.{elevation_of};
+ghost use Rattle.cdb_cut.specs.FinerTiles.{IsPlain, AreChildren, elevation_of};
 ghost use Rattle.cdb_check.specs.Kept.{AreKept};
 
 use crate::kept::Kept;
 use crate::painting::{clear, paint_sources};
+use crate::room::LARGEST_TILE;
 use cdb_grid::{Family, Spot, Tile, children, side, spot_of};
 use cdb_scratch::build;
 use cdb_source::Source;
 use cdb_touch::reached;
-
-/// The numbers of the largest tile.
-const LARGEST: usize = 1_048_576;
 
 /// Folds a finer tile into the part of a frame that it stands under, by the rule of its family.
 fn fold(
@@ -193,7 +190,7 @@ pub(crate) fn make_tile(
     if Kept::copy(kept, tile, frame) {
         return;
     }
-    if spare.len() < LARGEST {
+    if spare.len() < LARGEST_TILE {
         build_tile(sources, tile, frame);
         return;
     }

@@ -2,6 +2,12 @@ ghost use Rattle.std.specs.Prelude.{◌≤◌};
 
 use std::alloc::{AllocError, Global};
 
+/// The values of the largest tile: 1,024 rows of 1,024.
+pub(crate) const LARGEST_TILE: usize = 1_048_576;
+
+/// The bytes of the largest tile's file: 186, and two for each value.
+const LARGEST_FILE: usize = 2_097_338;
+
 /// The memory in which tiles are built and files are read: enough for the largest tile.
 #[derive(Drop)]
 pub struct Room {
@@ -19,7 +25,7 @@ pub struct Room {
 fn spare_for(alloc: Global, finer: usize) -> Result<Vec<i16>, AllocError>
     requires { finer ≤ 27 }
 {
-    vec![in alloc; 0; finer * 1_048_576]
+    vec![in alloc; 0; finer * LARGEST_TILE]
 }
 
 impl Room {
@@ -31,10 +37,10 @@ impl Room {
         requires { finer ≤ 27 }
         ensures { IfOk result IsReady }
     {
-        let frame = vec![in alloc; 0; 1_048_576]?;
+        let frame = vec![in alloc; 0; LARGEST_TILE]?;
         let spare = spare_for(alloc, finer)?;
-        let bytes = vec![in alloc; 0; 2_097_338]?;
-        let found = vec![in alloc; 0; 2_097_338]?;
+        let bytes = vec![in alloc; 0; LARGEST_FILE]?;
+        let found = vec![in alloc; 0; LARGEST_FILE]?;
         Ok(Room {
             frame,
             spare,

@@ -5,10 +5,10 @@ use Rattle.std.proofs.lemmas.Bool.{cases_lt}
 use Rattle.cdb_grid.specs.Children.{HasOneChild, HasFourChildren}
 use Rattle.cdb_grid.specs.declared.tile.Tile.{Tile}
 use Rattle.cdb_manifest.specs.declared.record_.Record.{Record}
-use Rattle.cdb_publish.specs.Folding.{AreChildren}
+use Rattle.cdb_cut.specs.FinerTiles.{AreChildren, elevation_of}
 use Rattle.cdb_publish.specs.Needs.{Need}
 use Rattle.cdb_publish.specs.LookUps.{look, look_before, needs_of, child_needs}
-use Rattle.cdb_publish.specs.TileFiles.{elevation_of, own_needs, extreme_needs, family_needs, TileNeeds}
+use Rattle.cdb_publish.specs.TileFiles.{own_needs, extreme_needs, family_needs, TileNeeds}
 use Rattle.cdb_publish.specs.Windows.{window_needs}
 use Rattle.cdb_publish.specs.declared.plan.Plan.{Plan}
 

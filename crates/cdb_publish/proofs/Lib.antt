@@ -4,7 +4,6 @@ pub mod FewNeeds
 pub mod FileRuns
 pub mod FolderLists
 pub mod FrameLaws
-pub mod FrameStarts
 pub mod HeadRuns
 pub mod LookLaws
 pub mod MidLaws

@@ -31,14 +31,14 @@ use Rattle.cdb_manifest.specs.declared.record_.Record.{Record}
 use Rattle.cdb_cut.specs.Laws.{IsExtreme}
 use Rattle.cdb_chain.specs.Publications.{AreRecords}
 use Rattle.cdb_publish.specs.Fitting.{Plans}
-use Rattle.cdb_publish.specs.Folding.{AreChildren}
-use Rattle.cdb_publish.specs.TileFiles.{HasFiles, elevation_of}
+use Rattle.cdb_cut.specs.FinerTiles.{AreChildren, elevation_of}
+use Rattle.cdb_publish.specs.TileFiles.{HasFiles}
 use Rattle.cdb_chain.specs.LookUps.{is_listed, found_in}
 use Rattle.cdb_publish.specs.LookUps.{look, look_before, IsNamed}
 use Rattle.cdb_publish.specs.Windows.{HasSources}
 use Rattle.cdb_publish.specs.declared.plan.Plan.{Plan}
-use Rattle.cdb_publish.proofs.ChildLaws.{parents}
-use Rattle.cdb_publish.proofs.FrameStarts.{extreme_kind}
+use Rattle.cdb_cut.proofs.FinerTiles.{parents}
+use Rattle.cdb_cut.proofs.FrameStarts.{extreme_kind}
 use Rattle.cdb_grid.proofs.TileOrder.{precedes, child_before, elevation_first}
 use Rattle.cdb_chain.proofs.LookLaws.{Answer, found_answers, listed_contains, contains_listed}
 use Rattle.cdb_crash.proofs.NewestFiles.{some_is, newest_before, same_after, none_before, none_reach, newest_own, in_range}

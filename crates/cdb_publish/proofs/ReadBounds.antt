@@ -10,7 +10,7 @@ use Rattle.cdb_model.specs.Names.{source_path}
 use Rattle.cdb_manifest.specs.declared.record_.Record.{Record}
 use Rattle.cdb_source.specs.declared.head.SourceHead.{SourceHead}
 use Rattle.cdb_publish.specs.Bounds.{rows_taken, painted_from, most_reads}
-use Rattle.cdb_publish.specs.Folding.{AreChildren}
+use Rattle.cdb_cut.specs.FinerTiles.{AreChildren}
 use Rattle.cdb_publish.specs.Needs.{Need}
 use Rattle.cdb_publish.specs.Reads.{StepNeeds}
 use Rattle.cdb_publish.specs.TileFiles.{family_needs}

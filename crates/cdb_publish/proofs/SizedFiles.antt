@@ -12,7 +12,8 @@ use Rattle.cdb_model.specs.Names.{source_path}
 use Rattle.cdb_manifest.specs.declared.record_.Record.{Record}
 use Rattle.cdb_cut.specs.Laws.{IsExtreme}
 use Rattle.cdb_publish.specs.LookUps.{look, look_before, needs_of, child_needs, IsNamed}
-use Rattle.cdb_publish.specs.TileFiles.{HasFiles, elevation_of, own_needs, extreme_needs, family_needs}
+use Rattle.cdb_cut.specs.FinerTiles.{elevation_of}
+use Rattle.cdb_publish.specs.TileFiles.{HasFiles, own_needs, extreme_needs, family_needs}
 use Rattle.cdb_publish.specs.Needs.{AreSized}
 use Rattle.cdb_publish.specs.Windows.{takes_rows, source_size, window_need, window_needs}
 use Rattle.cdb_publish.specs.declared.plan.Plan.{Plan}

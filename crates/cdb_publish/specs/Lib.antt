@@ -2,7 +2,6 @@ pub mod Bounds
 pub mod Causes
 pub mod Entries
 pub mod Fitting
-pub mod Folding
 pub mod Going
 pub mod Laws
 pub mod LookUps

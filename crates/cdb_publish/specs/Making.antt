@@ -5,6 +5,8 @@ use Rattle.cdb_files.specs.Disk.{State, IsImage}
 use Rattle.cdb_files.specs.Moments.{AddsOnly}
 use Rattle.cdb_files.specs.Whole.{IsImageBut}
 use Rattle.cdb_crash.specs.Plan.{Step, after_step}
+use Rattle.cdb_publish.specs.declared.errors.StepError.{StepError}
+use Rattle.cdb_publish.specs.declared.errors.StepError.TheVariants.{Fault, Damaged}
 
 -- What a crash may leave at the moments of a step: at the path that it writes to anything, and elsewhere what it might
 -- have left before.
@@ -20,3 +22,8 @@ pub record MakesStep {D T E : Type 0} (clock : D → ℕ) (since : D → ℕ →
   pub at : slice_get steps number ≡ Some step
   pub ok : OnOk result (state new ≡ after_step step (state old))
   pub time : AddsOnly clock since old new (IsStepImage step (state old))
+
+-- Where a step answers that a file is damaged, it wrote nothing.
+abbrev pub IsUnwritten : State → State → StepError → Type 0
+IsUnwritten before now Fault = Unit {0}
+IsUnwritten before now (Damaged expected found) = now ≡ before

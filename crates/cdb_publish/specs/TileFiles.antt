@@ -10,24 +10,11 @@ use Rattle.cdb_model.specs.Names.{path}
 use Rattle.cdb_model.specs.TileFile.{tile_bytes}
 use Rattle.cdb_manifest.specs.declared.record_.Record.{Record}
 use Rattle.cdb_cut.specs.Laws.{IsExtreme}
-use Rattle.cdb_publish.specs.Folding.{AreChildren}
+use Rattle.cdb_cut.specs.FinerTiles.{AreChildren, elevation_of}
 use Rattle.cdb_publish.specs.LookUps.{look, look_before, needs_of, child_needs, IsNamed}
 use Rattle.cdb_publish.specs.Needs.{Need}
 use Rattle.cdb_publish.specs.Windows.{window_needs, HasSources}
 use Rattle.cdb_publish.specs.declared.plan.Plan.{Plan}
-
--- The tile of elevations of the same cells.
-abbrev pub elevation_of : Tile → Tile
-elevation_of t = record {
-  family = Elev;
-  cell = t.cell;
-  level = t.level;
-  up = t.up;
-  right = t.right;
-  up_in_range =
-      t.up_in_range;
-  right_in_range = t.right_in_range;
-}
 
 -- The files that a tile with these finer tiles is made from: the earlier sources are ss, and the new ones x.
 pub record HasFiles (p : Plan) (kept : List Record) (m : FileMap) (ss x : List Source) (t : Tile)

@@ -1,13 +1,13 @@
 //! The next step before the head's.
 ghost use Rattle.std.specs.Prelude.{◌≡◌, ℕ, ◌+◌, ◌<◌, ◌≤◌, ◌++◌, ◌∷◌, [], List, length, reverse, drop, Some, OnOk};
-ghost use Rattle.std.specs.Prelude.{IfErr};
+ghost use Rattle.std.specs.Prelude.{OnErr, IfErr};
 ghost use Rattle.cdb_source.specs.declared.source.Source as given;
 ghost use Rattle.cdb_crash.specs.Plan.{steps_of, IsMidAfter};
 ghost use Rattle.cdb_publish.specs.Bounds.{reads_left_in};
 ghost use Rattle.cdb_publish.specs.Causes.{IsCaused};
 ghost use Rattle.cdb_chain.specs.Publications.{AreRecords};
 ghost use Rattle.cdb_publish.specs.Fitting.{Plans, Fits, IsSound, steps_before_head};
-ghost use Rattle.cdb_publish.specs.Making.{MakesStep};
+ghost use Rattle.cdb_publish.specs.Making.{MakesStep, IsUnwritten};
 ghost use Rattle.cdb_publish.specs.Needs.{IsDamage};
 ghost use Rattle.cdb_publish.specs.Reads.{SizesTold};
 ghost use Rattle.cdb_publish.specs.Ready.{IsReady};
@@ -22,6 +22,7 @@ use cdb_files::Disk;
 use cdb_source::Source;
 
 /// Makes the step of this number: of a source, a tile, a folder, or the record.
+#[tactic(auto, using(crate::proofs::StepRuns::faults_unwritten))]
 pub(crate) fn make_step<D: Disk>(
     plan: &Plan,
     sources: &[Source],
@@ -43,6 +44,7 @@ pub(crate) fn make_step<D: Disk>(
     ensures undamaged { D.tells → (P : List (List given.Source)) (x : List given.Source) → Plans plan.now P x
         → AreRecords chain.now.records P
         → IsMidAfter P x plan.now.record.tiles done (D.state disk.old) → IfErr result (λ e. e ≡ StepError.Fault) }
+    ensures unwritten { IfErr result (IsUnwritten (D.state disk.old) (D.state disk.new)) }
     ensures damage { IfErr result IsDamage }
     ensures cause { IsCaused (D.fault_count disk.old) (D.fault_count disk.new) result }
 {
@@ -71,6 +73,7 @@ pub(crate) fn advance<D: Disk>(
     ensures sound { IsSound work.new }
     ensures plan { work.new.plan ≡ work.old.plan }
     ensures done { OnOk result (work.new.done ≡ work.old.done + 1) }
+    ensures refused { OnErr result (work.new.done ≡ work.old.done) }
     ensures fits { (P : List (List given.Source)) (x : List given.Source) (number : ℕ) → Fits work.old P x number
         → OnOk result (Fits work.new P x (number + 1)) }
     ensures made { D.tells → (P : List (List given.Source)) (x : List given.Source) (number : ℕ)
@@ -86,6 +89,7 @@ pub(crate) fn advance<D: Disk>(
     ensures reads { OnOk result (D.read_count disk.new + reads_left_in
         (Some work.new) ≤ D.read_count disk.old + reads_left_in (Some work.old)) }
     ensures most_reads { D.read_count disk.new ≤ D.read_count disk.old + reads_left_in (Some work.old) }
+    ensures unwritten { IfErr result (IsUnwritten (D.state disk.old) (D.state disk.new)) }
     ensures damage { IfErr result IsDamage }
     ensures cause { IsCaused (D.fault_count disk.old) (D.fault_count disk.new) result }
 {

@@ -6,7 +6,7 @@ ghost use Rattle.cdb_crash.specs.Plan.{steps_of, IsMidAfter};
 ghost use Rattle.cdb_publish.specs.Causes.{IsCaused};
 ghost use Rattle.cdb_chain.specs.Publications.{AreRecords};
 ghost use Rattle.cdb_publish.specs.Fitting.{Plans, steps_before_head};
-ghost use Rattle.cdb_publish.specs.Making.{MakesStep};
+ghost use Rattle.cdb_publish.specs.Making.{MakesStep, IsUnwritten};
 ghost use Rattle.cdb_publish.specs.Needs.{IsDamage};
 ghost use Rattle.cdb_publish.specs.Reads.{SizesTold};
 ghost use Rattle.cdb_publish.specs.Ready.{IsReady};
@@ -68,6 +68,7 @@ pub(crate) fn tile_step<D: Disk>(
         → AreRecords chain.now.records P
         → IsMidAfter P x plan.now.record.tiles (length x + number) (D.state disk.old)
         → IfErr result (λ e. e ≡ StepError.Fault) }
+    ensures unwritten { IfErr result (IsUnwritten (D.state disk.old) (D.state disk.new)) }
     ensures damage { IfErr result IsDamage }
     ensures cause { IsCaused (D.fault_count disk.old) (D.fault_count disk.new) result }
 {

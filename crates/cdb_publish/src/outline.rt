@@ -18,6 +18,16 @@ use cdb_source::{Source, SourceHead};
 use cdb_touch::{TouchError, load, touched};
 use std::alloc::{AllocError, Global};
 
+/// The greatest load of a publication.
+const LOAD_LIMIT: u128 = 16_384;
+
+/// The most tile entries of all records of a store together.
+const ENTRY_LIMIT: u32 = 1_000_000;
+
+/// The most versions of a store.
+const VERSION_LIMIT: u32 = 4096;
+
+/// The heads of sources, in their order.
 fn heads(alloc: Global, sources: &[Source]) -> Result<Vec<SourceHead>, AllocError>
     ensures { IfOk result (λ heads. heads.items ≡ heads_of sources.now) }
 {
@@ -36,7 +46,7 @@ fn touch(alloc: Global, heads: &[SourceHead]) -> Result<Vec<Tile>, PlanError>
         Err(TouchError::Memory) => return Err(PlanError::Memory),
         Err(TouchError::Large { count }) => return Err(PlanError::Large { count }),
     };
-    prove!(load(heads) <= 16_384);
+    prove!(load(heads) <= LOAD_LIMIT);
     Ok(tiles)
 }
 
@@ -60,10 +70,10 @@ pub(crate) fn outline(alloc: Global, chain: &Chain, sources: &[Source]) -> Resul
     };
     let newest = chain.newest();
     let count = chain.entries() + tiles.len() as u32;
-    if count > 1_000_000 {
+    if count > ENTRY_LIMIT {
         return Err(PlanError::Entries { count });
     }
-    if newest == 4096 {
+    if newest == VERSION_LIMIT {
         return Err(PlanError::Versions);
     }
     let record = Record {

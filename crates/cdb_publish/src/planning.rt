@@ -21,6 +21,12 @@ use cdb_files::Disk;
 use cdb_source::Source;
 use std::alloc::{AllocError, Global};
 
+/// The values of the largest tile: 1,024 rows of 1,024.
+const LARGEST_TILE: usize = 1_048_576;
+
+/// The bytes of a tile's file before its values.
+const HEAD_BYTES: usize = 186;
+
 /// A publication that wasn't begun, with its sources.
 #[derive(Debug, Drop)]
 pub struct PlanRefused {
@@ -34,9 +40,9 @@ fn frames(alloc: Global, plan: &Plan) -> Result<Frames, AllocError>
     ensures { IfOk result (IsReady plan.now) }
 {
     let window = largest_window(plan.record.heads.as_slice(), plan.record.tiles.as_slice());
-    let room = window.max(1_048_576);
-    let bytes = vec![in alloc; 0; 2 * room + 186]?;
-    let posts = vec![in alloc; 0; 1_048_576]?;
+    let room = window.max(LARGEST_TILE);
+    let bytes = vec![in alloc; 0; 2 * room + HEAD_BYTES]?;
+    let posts = vec![in alloc; 0; LARGEST_TILE]?;
     let scratch = vec![in alloc; 0; room]?;
     Ok(Frames {
         bytes,

@@ -28,6 +28,7 @@ impl Publication {
     ghost use Rattle.cdb_publish.specs.Causes.{IsCaused};
     ghost use Rattle.cdb_chain.specs.Publications.{AreRecords};
     ghost use Rattle.cdb_publish.specs.Fitting.{IsSound};
+    ghost use Rattle.cdb_publish.specs.Making.{IsUnwritten};
     ghost use Rattle.cdb_publish.specs.Needs.{IsDamage};
     ghost use Rattle.cdb_publish.specs.Reads.{SizesTold};
     ghost use Rattle.cdb_publish.specs.declared.work.Work as work;
@@ -71,7 +72,13 @@ impl Publication {
         }
     }
 
-    /// Makes the next step.
+    /// Makes the next step: of a source, a tile, a folder, the record, or, as the last one, the head. `Ok`
+    /// takes one from the steps left, and says `Published` exactly where it was the last one.
+    ///
+    /// `Fault` comes only where a call of the disk failed. `Damaged` comes exactly where a file that the
+    /// step reads isn't there or has another length than its form gives, with the lengths in bytes of the
+    /// first such file; nothing is written then. After an error as many steps are left as before, and
+    /// nothing is promised of making them: the publication is given up.
     pub fn step<D: Disk>(&mut self, chain: &mut Chain, disk: &mut D) -> Result<Progress, StepError>
         requires left { 0 < left_of self.old }
         requires next { self.old.version ≡ length chain.old.records + 1 }
@@ -90,6 +97,8 @@ impl Publication {
             → Underway self.old P x number chain.old.records (D.state disk.old) → left_of self.old ≡ 1
             → AddsOnly D.clock D.since disk.old disk.new (IsEither Stands P x) }
         ensures left { OnOk result (left_of self.new + 1 ≡ left_of self.old) }
+        ensures refused_left { OnErr result (left_of self.new ≡ left_of self.old) }
+        ensures refused_reads { OnErr result (reads_left_of self.new ≡ reads_left_of self.old) }
         ensures progress { IfOk result (TellsProgress (left_of self.old) self.old.version) }
         ensures version { self.new.version ≡ self.old.version }
         ensures files { self.new.files ≡ self.old.files }
@@ -108,6 +117,7 @@ impl Publication {
         ensures most_reads { D.read_count disk.new ≤ D.read_count disk.old + reads_left_of self.old }
         ensures last_error { left_of self.old ≡ 1 → IfErr result (λ e. e ≡ StepError.Fault) }
         ensures last_reads { left_of self.old ≡ 1 → D.read_count disk.new ≡ D.read_count disk.old }
+        ensures unwritten { IfErr result (IsUnwritten (D.state disk.old) (D.state disk.new)) }
         ensures damage { IfErr result IsDamage }
         ensures cause { IsCaused (D.fault_count disk.old) (D.fault_count disk.new) result }
     {

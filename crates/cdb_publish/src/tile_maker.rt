@@ -10,7 +10,7 @@ ghost use Rattle.cdb_crash.specs.Plan.{IsMidAfter};
 ghost use Rattle.cdb_publish.specs.Causes.{IsCaused};
 ghost use Rattle.cdb_chain.specs.Publications.{AreRecords};
 ghost use Rattle.cdb_publish.specs.Fitting.{Plans};
-ghost use Rattle.cdb_publish.specs.Folding.{AreChildren};
+ghost use Rattle.cdb_cut.specs.FinerTiles.{AreChildren};
 ghost use Rattle.cdb_publish.specs.TileFiles.{family_needs, TileNeeds};
 ghost use Rattle.cdb_publish.specs.Needs.{TellsSizes, IsDamage};
 ghost use Rattle.cdb_publish.specs.Windows.{HasRoom};

@@ -1,15 +1,13 @@
 //! The values of a tile, by its family.
-ghost use Rattle.std.specs.Prelude.{◌≡◌, ℕ, ◌+◌, ◌*◌, ◌≤◌, ◌++◌, [], List, length, OnOk, IfErr, replicate};
+ghost use Rattle.std.specs.Prelude.{◌≡◌, ◌+◌, ◌*◌, ◌≤◌, ◌++◌, [], List, length, OnOk, IfErr};
 ghost use Rattle.cdb_grid.specs.Tiles.{tile_side};
 ghost use Rattle.cdb_source.specs.declared.source.Source as given;
-ghost use Rattle.cdb_source.specs.Posts.{none_of};
-ghost use Rattle.cdb_source.specs.Reached.{kind_of};
 ghost use Rattle.cdb_files.specs.Moments.{Rests};
 ghost use Rattle.cdb_cut.specs.Laws.{IsOwn, IsExtreme};
 ghost use Rattle.cdb_cut.specs.OneTile.{IsFrameOf, IsFolded, nothing};
 ghost use Rattle.cdb_publish.specs.Causes.{IsCaused};
-ghost use Rattle.cdb_publish.specs.Folding.{AreChildren};
-ghost use Rattle.cdb_publish.specs.TileFiles.{HasFiles, own_needs, elevation_of, extreme_needs, family_needs};
+ghost use Rattle.cdb_cut.specs.FinerTiles.{AreChildren, elevation_of};
+ghost use Rattle.cdb_publish.specs.TileFiles.{HasFiles, own_needs, extreme_needs, family_needs};
 ghost use Rattle.cdb_publish.specs.Needs.{TellsSizes, IsDamage};
 ghost use Rattle.cdb_publish.specs.Windows.{HasRoom};
 
@@ -22,23 +20,14 @@ use crate::windows::paint_sources;
 use cdb_chain::Chain;
 use cdb_files::Disk;
 use cdb_grid::{Family, Tile};
-
-/// The number that stands for no value.
-fn none_of(family: Family) -> i16
-    ensures { result ≡ none_of (kind_of family) }
-{
-    match family {
-        Family::Elev | Family::Low | Family::High => -32768,
-        Family::Mat => 0,
-    }
-}
+use cdb_source::kind_of;
 
 /// Leaves a frame without values.
 fn clear(tile: &Tile, frame: &mut [i16])
     requires { length frame.old ≡ tile_side tile.now * tile_side tile.now }
     ensures { (ss : List given.Source) → IsFolded ss tile.now nothing [] frame.new }
 {
-    let none = none_of(tile.family);
+    let none = kind_of(tile.family).no_value();
     for k in 0..frame.len() {
         frame[k] = none;
     }

@@ -23,6 +23,9 @@ use cdb_grid::Tile;
 use cdb_names::source_path;
 use cdb_source::{SourceHead, decode_posts};
 
+/// The bytes of a source's file before its posts.
+const HEAD_BYTES: u64 = 52;
+
 /// Reads rows of a version's source from its file.
 fn read_rows<D: Disk>(
     version: u32,
@@ -53,8 +56,8 @@ fn read_rows<D: Disk>(
 {
     let path = source_path(version, number);
     let cols = head.cols as u64;
-    let size = 52 + 2 * (head.rows as u64 * cols);
-    let at = 52 + 2 * (rows.first as u64 * cols);
+    let size = HEAD_BYTES + 2 * (head.rows as u64 * cols);
+    let at = HEAD_BYTES + 2 * (rows.first as u64 * cols);
     match read_part(disk, &path, size, at, bytes) {
         Ok(()) => {}
         Err(error) => return Err(error),

@@ -10,10 +10,9 @@ use Rattle.cdb_cut.specs.OneTile.{Stands, IsFolded, four_rule, nothing, elevatio
 use Rattle.cdb_cut.proofs.ChildPlaces.{stands_at}
 use Rattle.cdb_cut.proofs.OneTile as one
 use Rattle.cdb_cut.proofs.OneTileWhole.{start_elevation, extreme_whole, paint_start, own_whole}
-use Rattle.cdb_publish.specs.Folding.{AreChildren}
-use Rattle.cdb_publish.specs.TileFiles.{elevation_of}
-use Rattle.cdb_publish.proofs.ChildLaws.{even_side, parents, all_folded}
-use Rattle.cdb_publish.proofs.FrameStarts.{extreme_kind, plain_elevations, elevations_same}
+use Rattle.cdb_cut.specs.FinerTiles.{AreChildren, elevation_of}
+use Rattle.cdb_cut.proofs.FinerTiles.{even_side, parents, all_folded}
+use Rattle.cdb_cut.proofs.FrameStarts.{extreme_kind, plain_elevations, elevations_same}
 use Rattle.cdb_check.proofs.MakingLaws.{none_reaches}
 use Rattle.cdb_check.proofs.making.+making.Goals as goal
 

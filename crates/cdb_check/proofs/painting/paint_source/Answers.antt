@@ -1,6 +1,6 @@
 use Rattle.std.proofs.Common.{refl, arith}
 use Rattle.std.proofs.lemmas.Int.{ints}
-use Rattle.cdb_publish.proofs.WindowReads.{pass_window, painted_one}
+use Rattle.cdb_cut.proofs.PaintedSources.{pass_window, painted_one}
 use Rattle.cdb_check.proofs.painting.paint_source.Goals as goal
 
 pub returns-in_default : goal.returns-in_default

@@ -1,7 +1,7 @@
 use Rattle.std.proofs.Common.{◌≡◌, ◌∙◌, ◌-◌, ◌∷◌, List, drop, length, refl, sym, ap, subst, arith}
 use Rattle.cdb_source.specs.declared.source.Source.{Source}
 use Rattle.cdb_cut.specs.OneTile.{IsPaintedBy}
-use Rattle.cdb_publish.proofs.WindowReads.{one_older}
+use Rattle.cdb_cut.proofs.PaintedSources.{one_older}
 use Rattle.cdb_check.proofs.painting.paint_sources.Goals as goal
 
 pub loop-done-preserved : goal.loop-done-preserved

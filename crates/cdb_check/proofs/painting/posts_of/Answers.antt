@@ -1,5 +1,5 @@
 use Rattle.std.proofs.Common.{length, ap, arith}
-use Rattle.cdb_publish.proofs.WindowReads.{rows_within}
+use Rattle.cdb_cut.proofs.PaintedSources.{rows_within}
 use Rattle.cdb_check.proofs.painting.posts_of.Goals as goal
 
 pub slice_bounds-result-end : goal.slice_bounds-result-end

@@ -20,7 +20,7 @@ returns-in-Err-clause-finds g c = λ told.
     (c.loop-k.invariant.spelled told) in
     version_stopped (Unit {0}) Agreed (state c.args.disk.now) (state c.loop-k.disk) c.loop-k.invariant.looks.state
     records k c.in-Some.record.now c.in-Err.error
-    (here_at k records c.in-Some.record.now c.in-Some.ensures) (c.loop-k.invariant.met told)
+    (here_at k records c.in-Some.record.now c.in-Some.ensures.1) (c.loop-k.invariant.met told)
     (c.in-Err.ensures.finds told files here)
 
 pub loop-k-preserved : goal.loop-k-preserved
@@ -28,7 +28,7 @@ loop-k-preserved g c =
     let state = g.D.Disk.state in let k = c.loop-k.k in let records = c.args.chain.now.records in let r =
     c.in-Some.record.now in
     let files = all_source_files (take k records) in
-    let at : slice_get records k ≡ Some r = here_at k records r c.in-Some.ensures in
+    let at : slice_get records k ≡ Some r = here_at k records r c.in-Some.ensures.1 in
     record {
       met = λ told.
           let here : SpellAll (state c.loop-k.disk).present files c.loop-k.sources.items =

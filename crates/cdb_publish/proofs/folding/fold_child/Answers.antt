@@ -5,7 +5,7 @@ use Rattle.cdb_cut.specs.OneTile.{Stands, four_rule}
 use Rattle.cdb_cut.proofs.ChildPlaces.{stands_at}
 use Rattle.cdb_cut.proofs.OneTile.{fold_child, miss_child}
 use Rattle.cdb_publish.specs.LookUps.{IsNamed, IsReadFrame}
-use Rattle.cdb_publish.proofs.ChildLaws.{even_side}
+use Rattle.cdb_cut.proofs.FinerTiles.{even_side}
 use Rattle.cdb_publish.proofs.folding.fold_child.Goals as goal
 
 pub fold-requires-clause-even : goal.fold-requires-clause-even

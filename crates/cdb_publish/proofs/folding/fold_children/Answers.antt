@@ -6,7 +6,8 @@ use Rattle.cdb_files.specs.Disk.{State}
 use Rattle.cdb_cut.specs.OneTile.{IsFolded}
 use Rattle.cdb_publish.specs.LookUps.{look, needs_of, child_needs, IsNamed}
 use Rattle.cdb_publish.specs.Needs.{Need, AreSized, TellsError}
-use Rattle.cdb_publish.proofs.ChildLaws.{parents, all_folded, needs_at, needs_more}
+use Rattle.cdb_cut.proofs.FinerTiles.{parents, all_folded}
+use Rattle.cdb_publish.proofs.ChildLaws.{needs_at, needs_more}
 use Rattle.cdb_files.proofs.MomentLaws.{rests_then}
 use Rattle.cdb_publish.proofs.Sizes.{stopped, sized-append}
 use Rattle.cdb_publish.proofs.folding.fold_children.Goals as goal

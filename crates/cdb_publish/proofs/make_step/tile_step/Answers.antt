@@ -7,7 +7,7 @@ use Rattle.cdb_files.specs.Whole.{after_write}
 use Rattle.cdb_crash.specs.Plan.{Step}
 use Rattle.cdb_publish.specs.Reads.{StepNeeds}
 use Rattle.cdb_publish.specs.declared.errors.StepError.TheVariants.{Fault}
-use Rattle.cdb_publish.proofs.StepRuns.{wrote_ok, wrote_err, idle_err, only_read}
+use Rattle.cdb_publish.proofs.StepRuns.{wrote_ok, wrote_err, idle_err, only_read, unwritten}
 use Rattle.cdb_publish.specs.Windows.{HasRoom}
 use Rattle.cdb_publish.proofs.FewNeeds.{needs_map}
 use Rattle.cdb_publish.proofs.FrameLaws.{ready_after, written}
@@ -89,3 +89,7 @@ returns-in-Err-write_whole-clause-ready g c =
     ready_after c.args.plan.now c.args.frames.now c.make_tile.new.bytes c.make_tile.new.frame c.make_tile.new.scratch c.requires.ready
     (c.make_tile.auto.bytes ∙ ap length c.as_mut_slice.ensures.value) (c.make_tile.auto.frame ∙ ap length c.as_mut_slice-3.ensures.value)
     (c.make_tile.auto.scratch ∙ ap length c.as_mut_slice-2.ensures.value)
+
+pub returns-in-Err-clause-unwritten : goal.returns-in-Err-clause-unwritten
+returns-in-Err-clause-unwritten g c =
+    unwritten (g.D.Disk.state c.args.disk.now) (g.D.Disk.state c.make_tile.new.disk) c.in-Err.error c.make_tile.ensures.state

@@ -12,8 +12,8 @@ use Rattle.cdb_publish.proofs.EntryLists.{entries_few}
 use Rattle.cdb_publish.proofs.PlanBegins.{folders_are, one_publication}
 use Rattle.cdb_publish.proofs.outline.outline.Goals as goal
 
-pub returns-then-newest-eq4096-clause-refused : goal.returns-then-newest-eq4096-clause-refused
-returns-then-newest-eq4096-clause-refused c =
+pub returns-then-newest-eq-VERSION_LIMIT-clause-refused : goal.returns-then-newest-eq-VERSION_LIMIT-clause-refused
+returns-then-newest-eq-VERSION_LIMIT-clause-refused c =
     let heads = c.as_slice.ensures.value ∙ c.in_ok-heads.ensures in
     let L : List SourceHead → Type 0 = IsLight in
     let T : List SourceHead → Type 0 = λ hs. IsTouched hs c.in-Ok.tiles.items in
@@ -22,9 +22,9 @@ returns-then-newest-eq4096-clause-refused c =
       (
         c.entries.result + c.len.result,
         record { tiles = c.in-Ok.tiles.items; touched = subst T heads c.in-Ok.ensures.touched; count_is = omega (arith, c.entries.ensures, n) },
-        omega (arith, c.if-count-gt1000000.false),
+        omega (arith, c.if-count-gt-ENTRY_LIMIT.false),
       ),
-      omega (arith, c.newest-newest.ensures.value, c.if-newest-eq4096.true),
+      omega (arith, c.newest-newest.ensures.value, c.if-newest-eq-VERSION_LIMIT.true),
     )
 
 pub returns-clause-accepted : goal.returns-clause-accepted
@@ -37,9 +37,9 @@ returns-clause-accepted c =
       (
         c.entries.result + c.len.result,
         record { tiles = c.in-Ok.tiles.items; touched = subst T heads c.in-Ok.ensures.touched; count_is = omega (arith, c.entries.ensures, n) },
-        omega (arith, c.if-count-gt1000000.false),
+        omega (arith, c.if-count-gt-ENTRY_LIMIT.false),
       ),
-      omega (arith, c.newest-newest.ensures.value, c.newest-newest.ensures.most, c.if-newest-eq4096.false),
+      omega (arith, c.newest-newest.ensures.value, c.newest-newest.ensures.most, c.if-newest-eq-VERSION_LIMIT.false),
     )
 
 pub returns-clause-plans : goal.returns-clause-plans
@@ -56,9 +56,9 @@ returns-clause-plans c P list are =
       (
         c.entries.result + c.len.result,
         record { tiles = c.in-Ok.tiles.items; touched = touched; count_is = omega (arith, c.entries.ensures, n) },
-        omega (arith, c.if-count-gt1000000.false),
+        omega (arith, c.if-count-gt-ENTRY_LIMIT.false),
       ),
-      omega (arith, c.newest-newest.ensures.value, c.newest-newest.ensures.most, c.if-newest-eq4096.false),
+      omega (arith, c.newest-newest.ensures.value, c.newest-newest.ensures.most, c.if-newest-eq-VERSION_LIMIT.false),
     ) in
     let v : c.newest-newest.result + 1 ≡ length P + 1 = omega (arith, c.newest-newest.ensures.value, are.count) in
     let h : c.from.result ≡ heads_of x = c.from.ensures ∙ c.in_ok-heads.ensures in

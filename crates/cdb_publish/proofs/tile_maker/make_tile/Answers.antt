@@ -1,6 +1,6 @@
 use Rattle.std.proofs.Common.{◌≡◌, ◌∙◌, ◌+◌, ◌++◌, Some, slice_get, length, refl, sym, ap, subst, arith, rules}
 use Rattle.cdb_grid.specs.declared.tile.Tile.{Tile}
-use Rattle.cdb_publish.specs.Folding.{AreChildren}
+use Rattle.cdb_cut.specs.FinerTiles.{AreChildren}
 use Rattle.cdb_publish.specs.TileFiles.{family_needs, TileNeeds}
 use Rattle.cdb_publish.specs.Needs.{AreSized, TellsError}
 use Rattle.std.proofs.Common.{◌≤◌}

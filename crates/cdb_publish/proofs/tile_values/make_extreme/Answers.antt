@@ -6,9 +6,9 @@ use Rattle.cdb_files.specs.Disk.{State}
 use Rattle.cdb_cut.specs.OneTile.{IsFrameOf, elevations_of}
 use Rattle.cdb_cut.proofs.OneTileWhole.{start_elevation, extreme_whole}
 use Rattle.cdb_publish.specs.LookUps.{child_needs, needs_of, look, IsNamed}
-use Rattle.cdb_publish.specs.TileFiles.{elevation_of}
+use Rattle.cdb_cut.specs.FinerTiles.{elevation_of}
 use Rattle.cdb_publish.specs.Needs.{AreSized, TellsError}
-use Rattle.cdb_publish.proofs.FrameStarts.{extreme_kind, plain_elevations, elevations_same}
+use Rattle.cdb_cut.proofs.FrameStarts.{extreme_kind, plain_elevations, elevations_same}
 use Rattle.cdb_publish.proofs.Sizes.{error_before, error_later, sized-append}
 use Rattle.cdb_publish.proofs.tile_values.make_extreme.Goals as goal
 

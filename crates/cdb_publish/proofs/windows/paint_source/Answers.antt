@@ -5,7 +5,8 @@ use Rattle.cdb_source.specs.declared.head.SourceHead.{SourceHead}
 use Rattle.cdb_cut.specs.Window.{HasNoWindow}
 use Rattle.cdb_publish.specs.Needs.{Need, AreSized, TellsError}
 use Rattle.cdb_publish.specs.Windows.{window_need}
-use Rattle.cdb_publish.proofs.WindowReads.{other_level, no_rows, some_rows, pass_level, pass_window, painted_one, same_at}
+use Rattle.cdb_cut.proofs.PaintedSources.{pass_level, pass_window, painted_one}
+use Rattle.cdb_publish.proofs.WindowReads.{other_level, no_rows, some_rows, same_at}
 use Rattle.cdb_crash.proofs.PlanNumbers.{got}
 use Rattle.cdb_publish.proofs.windows.paint_source.Goals as goal
 

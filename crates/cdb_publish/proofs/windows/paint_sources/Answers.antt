@@ -10,7 +10,8 @@ use Rattle.cdb_publish.specs.Windows.{window_need, window_needs}
 use Rattle.cdb_crash.proofs.NewestFiles.{some_at}
 use Rattle.cdb_files.proofs.MomentLaws.{rests_then}
 use Rattle.cdb_publish.proofs.Sizes.{stopped, sized-append}
-use Rattle.cdb_publish.proofs.WindowReads.{from_on, from_more, all_needs, one_older, drop_end, head_there, same_length}
+use Rattle.cdb_cut.proofs.PaintedSources.{one_older}
+use Rattle.cdb_publish.proofs.WindowReads.{from_on, from_more, all_needs, drop_end, head_there, same_length}
 use Rattle.cdb_publish.proofs.windows.paint_sources.Goals as goal
 
 pub paint_source-requires-clause-room : goal.paint_source-requires-clause-room

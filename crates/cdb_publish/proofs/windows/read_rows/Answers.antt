@@ -1,6 +1,7 @@
 use Rattle.std.proofs.Common.{◌∙◌, ◌*◌, refl, ap, arith}
 use Rattle.cdb_publish.proofs.Sizes.{need_same}
-use Rattle.cdb_publish.proofs.WindowReads.{rows_read, rows_within}
+use Rattle.cdb_cut.proofs.PaintedSources.{rows_within}
+use Rattle.cdb_publish.proofs.WindowReads.{rows_read}
 use Rattle.cdb_publish.proofs.windows.read_rows.Goals as goal
 
 pub read_part-requires : goal.read_part-requires
