@@ -12,3 +12,11 @@ pub mod OpenTracks
 pub mod SessionTracks
 pub mod StepThen
 pub mod CheckLaws
+pub mod StepLaws
+pub mod BeginLaws
+pub mod ListLaws
+pub mod AskLaws
+pub mod NewestLaws
+pub mod PublishLaws
+pub mod FillLaws
+pub mod FilledLaws

@@ -1,7 +1,10 @@
 pub mod Checks
+pub mod Filling
 pub mod Held
 pub mod Loading
+pub mod Populating
 pub mod Stays
+pub mod StepSizes
 pub mod Store
 pub mod StoreAnswers
 pub mod Tracks

@@ -1,5 +1,5 @@
 //! The files of a store are checked.
-ghost use Rattle.std.specs.Prelude.{◌≡◌, ℕ, None, IfOk};
+ghost use Rattle.std.specs.Prelude.{◌≡◌, None, IfOk};
 ghost use Rattle.cdb_model.specs.KnownStore.{State};
 ghost use Rattle.cdb_model.specs.Stores.{Which, kind_of};
 ghost use Rattle.cdb_model.specs.Transitions.{StateIn};

@@ -1,36 +1,29 @@
-ghost use Rattle.std.specs.Prelude.{◌≡◌, ◌≢◌, ◌++◌, ◌∷◌, ◌+◌, ◌<◌, ◌≤◌, ◌↔◌, ℕ, List, [], None, length, is_some, IsSome, IfOk, IfErr, OnOk, OnErr, Err};
+ghost use Rattle.std.specs.Prelude.{◌≡◌, ◌++◌, ◌∷◌, ◌+◌, ◌<◌, ◌≤◌, [], None, length, is_some, IfSome, IfOk, IfErr, OnOk, OnErr, Err};
 ghost use Rattle.cdb_source.specs.declared.source.Source as given;
 ghost use Rattle.cdb_model.specs.Causes.{Rose};
 ghost use Rattle.cdb_model.specs.Events as machine;
-ghost use Rattle.cdb_model.specs.Grammar.{InlineSource, FileSource, inline_in, file_in};
-ghost use Rattle.cdb_model.specs.ImageFiles.{SpellsNone};
+ghost use Rattle.cdb_model.specs.Grammar.{InlineSource, FileSource};
 ghost use Rattle.cdb_model.specs.KnownStore.{State};
 ghost use Rattle.cdb_model.specs.Maps.{Content};
-ghost use Rattle.cdb_model.specs.Sessions.{session_of};
-ghost use Rattle.cdb_model.specs.Spelled.{SpellsSource};
 ghost use Rattle.cdb_model.specs.Stores.{Which, kind_of};
 ghost use Rattle.cdb_model.specs.Transitions.{StateIn, IsReadyIn, GivesIn, LoadsIn, ConnectsIn, AsksIn, DisconnectsIn, TellsIn};
 ghost use Rattle.cdb_files.specs.Moments.{AddsOnly, Rests};
 ghost use Rattle.cdb_sessions.specs.Sessions.{IsServed, AreCurrent, ServesCurrent};
 ghost use Rattle.cdb_engine.specs.Held.{sessions_part};
-ghost use Rattle.cdb_engine.specs.Loading.{LoadOutcome};
+ghost use Rattle.cdb_engine.specs.StepSizes.{TellsStep};
 ghost use Rattle.cdb_engine.specs.StoreAnswers.{ready_answer, session_answer, close_answer, advance_answer, tile_answer, HasBytes, TriesIn, HaltsBy, AdvanceCause, left_in};
 ghost use Rattle.cdb_engine.specs.Stays.{Stays, Shows, ChangesAlike};
 ghost use Rattle.cdb_engine.specs.Tracks.{Origin, Tracks, Leads, DuringNow};
 
-use crate::errors::{AdvanceError, InlineError, LoadError, ReadyError, SubmitRefused};
-use crate::posts::spelled;
+use crate::errors::{AdvanceError, ReadyError, SubmitRefused};
 use crate::reply::Opened;
 use crate::settle::{Settled, settle};
-use crate::source_file::loaded;
-use crate::{InlineOrder, LoadOrder};
 use cdb_chain::Chain;
-use cdb_files::{Disk, Shelf};
+use cdb_files::Disk;
 use cdb_grid::Tile;
 use cdb_publish::{Progress, Publication};
 use cdb_sessions::{Reply, SessionError, Sessions, TileError, Unknown};
 use cdb_source::Source;
-use std::alloc::Global;
 use std::marker::Model;
 
 /// How many sources can be pending.
@@ -121,38 +114,6 @@ impl Engine {
         self.chain.newest()
     }
 
-    /// Makes the source that an order spells. The number that has no value is -32768 for elevation
-    /// and 0 for material. `Range` exactly where the order spells no source: a level that isn't
-    /// one, a coordinate or a step that is no whole number of arc units or out of range, rows and
-    /// columns out of range, another number of posts, or a post out of range. `Memory`: memory for
-    /// the posts was refused.
-    pub fn inline(&self, alloc: Global, order: &InlineOrder) -> Result<Source, InlineError>
-        ensures spelled { IfOk result (SpellsSource (inline_in order.now)) }
-        ensures range { result ≡ Err InlineError.Range → SpellsNone (SpellsSource (inline_in order.now)) }
-    {
-        spelled(alloc, order)
-    }
-
-    /// Makes the source that an order spells with its file of the shelf, which is read in one
-    /// piece, opened as a TIFF file, and given row by row. The errors come in this order: `Shelf`
-    /// only where a call of the shelf failed, `Absent` exactly where there is no such file, `Big`
-    /// exactly where it has more than 67,108,864 bytes, `Input` exactly where it isn't a TIFF file
-    /// that is read, and `Range` exactly where the order spells no source with it. `Memory`: memory
-    /// for the bytes of the file or for the posts was refused.
-    pub fn load<H: Shelf>(
-        &self,
-        alloc: Global,
-        order: &LoadOrder,
-        shelf: &mut H,
-    ) -> Result<Source, LoadError>
-        ensures loads { LoadOutcome H.tells (H.files shelf.old order.now.path.bytes) (file_in order.now) result }
-        ensures files { H.files shelf.new ≡ H.files shelf.old }
-        ensures later { H.fault_count shelf.old ≤ H.fault_count shelf.new }
-        ensures failed { result ≡ Err LoadError.Shelf → Rose (H.fault_count shelf.old) (H.fault_count shelf.new) }
-    {
-        loaded(alloc, order, shelf)
-    }
-
     /// Puts a source behind those that are pending, and answers how many are pending then. To be
     /// called where `ready` answers Ok. Where memory was refused the source comes back.
     pub fn submit(&mut self, source: Source) -> Result<u32, SubmitRefused>
@@ -174,9 +135,9 @@ impl Engine {
 
     /// Makes the next step of the publication that is going. `Halted` comes first: a step of this
     /// opening failed or found a file damaged. Then `Nothing`: none is going. `Fault` only where a
-    /// call of the disk failed, and `Damaged` where a file that the step reads has another size than
-    /// its form gives: the publication is given up then, and the writer halted at the count of failed
-    /// calls that the disk tells. It takes no memory.
+    /// call of the disk failed, and `Damaged` exactly where a file that the step reads isn't there or has
+    /// another size than its form gives, with the sizes of the first such file: the publication is given
+    /// up then, and the writer halted at the count of failed calls that the disk tells. It takes no memory.
     pub fn step<D: Disk>(&mut self, disk: &mut D) -> Result<Progress, AdvanceError>
         ensures step { (w : Which) (origin : Origin) (s : StateIn (kind_of w))
             → Stays D.tells D.clock D.fault_count D.since D.state origin disk.old self.old w s
@@ -184,6 +145,8 @@ impl Engine {
             (Stays D.tells D.clock D.fault_count D.since D.state origin disk.new self.new w) }
         ensures moments { (s : State) → D.tells → Tracks self.old (D.state disk.old) s
             → AddsOnly D.clock D.since disk.old disk.new (DuringNow s.list s.going) }
+        ensures sizes { IfSome self.old.work (λ work. TellsStep D.tells (D.state disk.old).present work
+            self.old.chain.records (D.read_count disk.old) (D.read_count disk.new) result) }
         ensures halt { HaltsBy result self.old.halted self.new.halted (D.fault_count disk.new) }
         ensures reply { self.new.reply ≡ self.old.reply }
         ensures kept { self.new.kept ≡ self.old.kept }

@@ -11,7 +11,7 @@ ghost use Rattle.cdb_engine.specs.Loading.{IsMadeOf};
 use crate::errors::LoadError;
 use crate::head_words::{head_of, of_file};
 use cdb_model::LoadWords;
-use cdb_source::{Range, Source, SourceHead, SourceMaker};
+use cdb_source::{Range, Source, SourceMaker};
 use cdb_tiff_read::{Image, open, row};
 use std::alloc::Global;
 

@@ -1,5 +1,5 @@
 //! A source of the posts of an order.
-ghost use Rattle.std.specs.Prelude.{◌≡◌, ◌*◌, [], length, IfOk, OnOk, OnErr, All};
+ghost use Rattle.std.specs.Prelude.{◌≡◌, ◌*◌, length, IfOk, OnOk, OnErr, All};
 ghost use Rattle.cdb_source.specs.Posts.{IsAllowed, none_of};
 ghost use Rattle.cdb_model.specs.Grammar.{inline_in};
 ghost use Rattle.cdb_model.specs.ImageFiles.{SpellsNone};
@@ -7,9 +7,10 @@ ghost use Rattle.cdb_model.specs.Spelled.{SpellsSource, row_of_posts};
 ghost use Rattle.cdb_model.specs.Text.{last_first};
 ghost use Rattle.cdb_engine.specs.Words.{HasRows};
 
+use crate::InlineOrder;
+use crate::engine::Engine;
 use crate::errors::InlineError;
 use crate::head_words::{head_of, of_inline};
-use cdb_model::InlineWords;
 use cdb_source::{Kind, Range, Source, SourceMaker};
 use std::alloc::Global;
 
@@ -46,24 +47,30 @@ fn push_posts(
     Ok(())
 }
 
-/// The source that an order spells.
-pub fn spelled(alloc: Global, order: &InlineWords) -> Result<Source, InlineError>
-    ensures spelled { IfOk result (SpellsSource (inline_in order.now)) }
-    ensures range { result ≡ Err InlineError.Range → SpellsNone (SpellsSource (inline_in order.now)) }
-{
-    let Some(head) = head_of(&of_inline(order), order.rows, order.cols) else {
-        return Err(InlineError::Range);
-    };
-    let rows = head.rows as usize;
-    let cols = head.cols as usize;
-    if order.posts.len() != rows * cols {
-        return Err(InlineError::Range);
-    }
-    let Ok(mut maker) = SourceMaker::new(alloc, head) else {
-        return Err(InlineError::Memory);
-    };
-    match push_posts(&mut maker, &order.posts, rows, cols, no_value(head.kind)) {
-        Ok(()) => Ok(maker.finish()),
-        Err(_) => Err(InlineError::Range),
+impl Engine {
+    /// Makes the source that an order spells. The number that has no value is -32768 for elevation
+    /// and 0 for material. `Range` exactly where the order spells no source: a level that isn't
+    /// one, a coordinate or a step that is no whole number of arc units or out of range, rows and
+    /// columns out of range, another number of posts, or a post out of range. `Memory`: memory for
+    /// the posts was refused.
+    pub fn inline(&self, alloc: Global, order: &InlineOrder) -> Result<Source, InlineError>
+        ensures spelled { IfOk result (SpellsSource (inline_in order.now)) }
+        ensures range { result ≡ Err InlineError.Range → SpellsNone (SpellsSource (inline_in order.now)) }
+    {
+        let Some(head) = head_of(&of_inline(order), order.rows, order.cols) else {
+            return Err(InlineError::Range);
+        };
+        let rows = head.rows as usize;
+        let cols = head.cols as usize;
+        if order.posts.len() != rows * cols {
+            return Err(InlineError::Range);
+        }
+        let Ok(mut maker) = SourceMaker::new(alloc, head) else {
+            return Err(InlineError::Memory);
+        };
+        match push_posts(&mut maker, &order.posts, rows, cols, no_value(head.kind)) {
+            Ok(()) => Ok(maker.finish()),
+            Err(_) => Err(InlineError::Range),
+        }
     }
 }

@@ -9,10 +9,10 @@ use cdb_touch::load;
 use std::alloc::{AllocError, Global};
 
 /// The greatest load of a publication.
-const MOST_LOAD: u128 = 16_384;
+pub(crate) const MOST_LOAD: u128 = 16_384;
 
 /// The heads of sources, in their order.
-fn heads(alloc: Global, sources: &[Source]) -> Result<Vec<SourceHead>, AllocError>
+pub(crate) fn heads(alloc: Global, sources: &[Source]) -> Result<Vec<SourceHead>, AllocError>
     ensures { IfOk result (λ heads. heads.items ≡ heads_of sources.now) }
 {
     sources.iter().map(|source| source.head).collect(alloc)

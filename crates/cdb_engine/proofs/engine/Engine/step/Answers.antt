@@ -1,8 +1,10 @@
-use Rattle.std.proofs.Common.{◌≡◌, ◌∙◌, Option, Some, None, IsSome, sym, ap, subst}
+use Rattle.std.proofs.Common.{◌≡◌, ◌∙◌, Option, Some, None, IsSome, IfSome, Err, sym, ap, subst}
 use Rattle.cdb_publish.specs.declared.publication.Publication as publish
 use Rattle.cdb_engine.specs.Held.{Held, held_of, CanStep}
 use Rattle.cdb_engine.specs.Stays.{Stays}
+use Rattle.cdb_engine.specs.StepSizes.{TellsStep}
 use Rattle.cdb_engine.specs.Tracks.{Tracks}
+use Rattle.cdb_engine.specs.declared.errors.AdvanceError.TheVariants as advance
 use Rattle.cdb_engine.proofs.NoStep.{some_there, tries_halted, tries_nothing}
 use Rattle.cdb_engine.proofs.StayLaws.{stays_shows}
 use Rattle.cdb_engine.proofs.StepTracks.{not_there, can_of, Steps}
@@ -80,3 +82,41 @@ returns-clause-moments g c = λ s told tracks.
       cause = c.step-made.ensures.cause;
     } in
     moments_then g.D.Disk.tells g.D.Disk.clock g.D.Disk.fault_count g.D.Disk.since g.D.Disk.state c.args.disk.now c.step-made.new.disk held c.step-made.new.chain c.in-Some.work c.step-made.new.self has running can c.step-made.result made c.settle-work.result.work c.settle-work.result.halted c.settle-work.result.answer c.faults.result c.settle-work.ensures.work c.settle-work.ensures.halted c.settle-work.ensures.answer c.faults.ensures s told (subst (λ (h : Held). Tracks h (g.D.Disk.state c.args.disk.now) s) (sym c.self.view_is) tracks)
+
+pub returns-then-is_some-clause-sizes : goal.returns-then-is_some-clause-sizes
+returns-then-is_some-clause-sizes g c =
+    let D = g.D.Disk in
+    let none : c.self.inside.work ≡ None = c.self.invariant.idle (some_there c.self.inside.halted c.if-is_some.ensures) in
+    let Told : Held → Type 0 = λ h. IfSome h.work (λ work. TellsStep D.tells (D.state c.args.disk.now).present work
+    h.chain.records (D.read_count c.args.disk.now) (D.read_count c.args.disk.now) (Err advance.Halted)) in
+    let Here : publish.Publication → Type 0 = λ work. TellsStep D.tells (D.state c.args.disk.now).present work
+    c.self.inside.chain.records (D.read_count c.args.disk.now) (D.read_count c.args.disk.now) (Err advance.Halted) in
+    subst Told c.self.view_is (subst (λ (o : Option publish.Publication). IfSome o Here) (sym none) tt)
+
+pub returns-in_default-clause-sizes : goal.returns-in_default-clause-sizes
+returns-in_default-clause-sizes g c =
+    let D = g.D.Disk in
+    let none : c.self.inside.work ≡ None = sym c.take.ensures.value ∙ c.in_default.is in
+    let Told : Held → Type 0 = λ h. IfSome h.work (λ work. TellsStep D.tells (D.state c.args.disk.now).present work
+    h.chain.records (D.read_count c.args.disk.now) (D.read_count c.args.disk.now) (Err advance.Nothing)) in
+    let Here : publish.Publication → Type 0 = λ work. TellsStep D.tells (D.state c.args.disk.now).present work
+    c.self.inside.chain.records (D.read_count c.args.disk.now) (D.read_count c.args.disk.now) (Err advance.Nothing) in
+    subst Told c.self.view_is (subst (λ (o : Option publish.Publication). IfSome o Here) (sym none) tt)
+
+pub returns-clause-sizes : goal.returns-clause-sizes
+returns-clause-sizes g c =
+    let D = g.D.Disk in
+    let has : c.self.inside.work ≡ Some c.in-Some.work = sym c.take.ensures.value ∙ c.in-Some.is in
+    let Told : Held → Type 0 = λ h. IfSome h.work (λ work. TellsStep D.tells (D.state c.args.disk.now).present work
+    h.chain.records (D.read_count c.args.disk.now) (D.read_count c.step-made.new.disk) c.settle-work.result.answer) in
+    let Here : publish.Publication → Type 0 = λ work. TellsStep D.tells (D.state c.args.disk.now).present work
+    c.self.inside.chain.records (D.read_count c.args.disk.now) (D.read_count c.step-made.new.disk)
+    c.settle-work.result.answer in
+    let told : Here c.in-Some.work = record {
+      made = c.step-made.result;
+      answer = c.settle-work.ensures.answer;
+      sizes = c.step-made.ensures.sizes;
+      last = c.step-made.ensures.last_error;
+      damage = c.step-made.ensures.damage;
+    } in
+    subst Told c.self.view_is (subst (λ (o : Option publish.Publication). IfSome o Here) (sym has) told)

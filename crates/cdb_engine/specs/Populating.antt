@@ -1,0 +1,180 @@
+-- How the machine goes from one publication that is drawn to the next, over a store that is known and over any.
+use Rattle.std.specs.Prelude.{◌≡◌, ℕ, ◌<◌, ℤ, List, [], length, All, Option, None, Some, Result, Ok, Err}
+use Rattle.cdb_grid.specs.declared.tile.Tile.{Tile}
+use Rattle.cdb_source.specs.declared.source.Source.{Source}
+use Rattle.cdb_source.specs.Reached.{Reached}
+use Rattle.cdb_model.specs.KnownStore.{State}
+use Rattle.cdb_model.specs.Publications.{publication_of, sources_of, sources_up_to, heads_of, Touches}
+use Rattle.cdb_model.specs.Sessions.{session_of}
+use Rattle.cdb_model.specs.declared.session.Session.{Session}
+use Rattle.cdb_model.specs.Stores.{Kind, Which, known, any, kind_of}
+use Rattle.cdb_model.specs.Transitions.{StateIn, HasEntriesIn, IsFullOfVersionsIn}
+use Rattle.cdb_publish.specs.declared.errors.Progress.{Progress}
+use Rattle.cdb_publish.specs.declared.errors.Progress.TheVariants as progress
+use Rattle.cdb_sessions.specs.declared.errors.TileError.{TileError}
+use Rattle.cdb_sessions.specs.declared.errors.TileError.TheVariants as tile
+use Rattle.cdb_sessions.specs.declared.sessions.Reply.{Reply}
+use Rattle.cdb_engine.specs.declared.errors.AdvanceError.{AdvanceError}
+use Rattle.cdb_engine.specs.declared.errors.AdvanceError.TheVariants as advance
+use Rattle.cdb_engine.specs.declared.errors.PublishError.{PublishError}
+use Rattle.cdb_engine.specs.declared.errors.PublishError.TheVariants as publish
+use Rattle.cdb_engine.specs.declared.reply.Begun.{Begun}
+use Rattle.cdb_generate.specs.Generator.{PublicationDrawn}
+use Rattle.cdb_generate.specs.Sums.{tiles_sum}
+use Rattle.cdb_engine.specs.declared.errors.PopulateError.{PopulateError}
+use Rattle.cdb_engine.specs.declared.errors.PopulateError.TheVariants.{Memory, Fault, Entries, Versions, Damaged}
+use Rattle.cdb_engine.specs.declared.drawn_publication.Published.{Published}
+
+-- nothing is pending, going or open, and the writer isn't halted
+pub record IsAtRest (k : Kind) (s : StateIn k) : Type 0 where
+  pub pending : s.pending ≡ []
+  pub going : s.going ≡ None
+  pub halted : s.halted ≡ None
+  pub sessions : s.sessions ≡ []
+
+-- the sum of the values of tiles at the newest version, where the publications are known
+abbrev pub IsSumAt : (w : Which) → (kind_of w).Listed → List Tile → ℤ → Type 0
+IsSumAt known list tiles sum = sum ≡ tiles_sum (sources_of list) tiles
+IsSumAt any list tiles sum = Unit {0}
+
+-- the publication that is drawn next, and its plan
+pub record IsNext (w : Which) (old : StateIn (kind_of w)) (x : ℕ) : Type 0 where
+  pub sources : List Source
+  pub drawn : PublicationDrawn x sources
+  pub tiles : List Tile
+  pub touched : Touches (publication_of sources) tiles
+  pub planned : (kind_of w).Planned
+  pub left : ℕ
+  pub starts : (kind_of w).Starts old.list sources tiles planned left
+
+-- it is complete
+pub record Completes (w : Which) (old : StateIn (kind_of w)) (x : ℕ) (published : Published) (new : StateIn
+    (kind_of w)) : Type 0 where
+  pub next : IsNext w old x
+  pub list_is : new.list ≡ (kind_of w).add old.list next.planned
+  pub at_rest : IsAtRest (kind_of w) new
+  pub files_are : published.files ≡ length next.tiles
+  pub sum_is : IsSumAt w new.list next.tiles published.sum
+
+-- how far it came: it wasn't begun, it was given up, or it is complete
+pub data CameTo (w : Which) (old : StateIn (kind_of w)) (x : ℕ) (new : StateIn (kind_of w)) : Type 0 where
+  not_begun : new.list ≡ old.list → new.going ≡ None → new.halted ≡ None → CameTo w old x new
+  given_up : (next : IsNext w old x) → new.list ≡ old.list → new.going ≡ None
+      → new.halted ≡ Some ((kind_of w).drop next.planned) → CameTo w old x new
+  complete : (next : IsNext w old x) → new.list ≡ (kind_of w).add old.list next.planned → new.going ≡ None
+      → new.halted ≡ None → CameTo w old x new
+
+-- its sources are pending
+pub record HasPending (w : Which) (old : StateIn (kind_of w)) (x : ℕ) (new : StateIn (kind_of w)) : Type 0 where
+  pub sources : List Source
+  pub drawn : PublicationDrawn x sources
+  pub state : new ≡ record old { pending = sources }
+
+-- why the store has no further publication
+abbrev pub StopsBy : (w : Which) → StateIn (kind_of w) → ℕ → PopulateError → StateIn (kind_of w) → Type 0
+StopsBy w old x Memory new = CameTo w old x new
+StopsBy w old x Fault new = CameTo w old x new
+StopsBy w old x (Entries count) new = HasPending w old x new × HasEntriesIn (kind_of w) new count
+StopsBy w old x Versions new = HasPending w old x new × IsFullOfVersionsIn (kind_of w) new
+StopsBy w old x (Damaged expected found) new = (kind_of w).Maybe (CameTo w old x new)
+
+abbrev pub PublishesIn : (w : Which) → StateIn (kind_of w) → ℕ → Result Published PopulateError
+    → StateIn (kind_of w) → Type 0
+PublishesIn w old x (Ok published) new = Completes w old x published new
+PublishesIn w old x (Err error) new = StopsBy w old x error new
+
+-- ---- a publication is begun
+
+-- what is answered where one was to be begun of sources that are drawn
+abbrev pub begun_of : Result Begun PublishError → Result Unit PopulateError
+begun_of (Ok begun) = Ok tt
+begun_of (Err (publish.Entries count)) = Err (Entries count)
+begun_of (Err publish.Versions) = Err Versions
+begun_of (Err _) = Err Memory
+
+-- the pending sources are going, with all of their steps left
+pub record IsGoingOf (w : Which) (s : StateIn (kind_of w)) (Now : StateIn (kind_of w) → Type 0) : Type 0 where
+  pub tiles : List Tile
+  pub touched : Touches (publication_of s.pending) tiles
+  pub planned : (kind_of w).Planned
+  pub left : ℕ
+  pub starts : (kind_of w).Starts s.list s.pending tiles planned left
+  pub some : 0 < left
+  pub now : Now (record s { pending = []; going = Some record { publication = planned; left = left } })
+
+abbrev pub BeginsDrawn : (w : Which) → StateIn (kind_of w) → Result Unit PopulateError → (StateIn (kind_of w) → Type 0)
+    → Type 0
+BeginsDrawn w s (Ok _) Now = IsGoingOf w s Now
+BeginsDrawn w s (Err Memory) Now = Now s
+BeginsDrawn w s (Err (Entries count)) Now = Now s × HasEntriesIn (kind_of w) s count
+BeginsDrawn w s (Err Versions) Now = Now s × IsFullOfVersionsIn (kind_of w) s
+BeginsDrawn w s (Err _) Now = ⊥
+
+-- ---- its steps
+
+-- how they end with a step that was tried
+abbrev pub ended_by : Result Progress AdvanceError → Option (Result Unit PopulateError)
+ended_by (Ok progress.Going) = None
+ended_by (Ok (progress.Published version)) = Some (Ok tt)
+ended_by (Err advance.Halted) = Some (Ok tt)
+ended_by (Err advance.Nothing) = Some (Ok tt)
+ended_by (Err advance.Fault) = Some (Err Fault)
+ended_by (Err (advance.Damaged expected found)) = Some (Err (Damaged expected found))
+
+-- all that are left were made, or one of them failed
+abbrev pub Finishes : (w : Which) → StateIn (kind_of w) → (kind_of w).Planned → Result Unit PopulateError
+    → (StateIn (kind_of w) → Type 0) → Type 0
+Finishes w s planned (Ok _) Now = Now (record s { list = (kind_of w).add s.list planned; going = None })
+Finishes w s planned (Err Fault) Now = Now (record s { going = None; halted = Some ((kind_of w).drop planned) })
+Finishes w s planned (Err (Damaged expected found)) Now =
+    (kind_of w).Maybe (Now (record s { going = None; halted = Some ((kind_of w).drop planned) }))
+Finishes w s planned (Err _) Now = ⊥
+
+-- ---- its tiles are asked for
+
+-- what is answered to a request for a tile: its bytes are summed, and there are none where it has no file
+abbrev pub asked_by : Result Reply TileError → Result Unit PopulateError
+asked_by (Ok reply) = Ok tt
+asked_by (Err tile.Unknown) = Ok tt
+asked_by (Err tile.Fault) = Err Fault
+asked_by (Err (tile.Damaged expected found)) = Err (Damaged expected found)
+
+-- requests leave the state
+abbrev pub Asks : {T : Type 0} → (w : Which) → Result T PopulateError → Type 0 → Type 0
+Asks w (Ok sum) Now = Now
+Asks w (Err Fault) Now = Now
+Asks w (Err (Damaged expected found)) Now = (kind_of w).Maybe Now
+Asks w (Err _) Now = ⊥
+
+-- a session is open at a version, and some source up to it reaches each of these tiles
+pub record IsOpenAt (s : State) (id : ℕ) (version : ℕ) (tiles : List Tile) : Type 0 where
+  pub session : Session
+  pub is_open : session_of id s.sessions ≡ Some session
+  pub version_is : session.version ≡ version
+  pub reached : All (λ t. Reached (heads_of (sources_up_to version s.list)) t) tiles
+
+-- a state with this list, in which nothing is pending or going, and the writer isn't halted
+pub record IsAfter (k : Kind) (list : k.Listed) (s : StateIn k) : Type 0 where
+  pub list_is : s.list ≡ list
+  pub pending : s.pending ≡ []
+  pub going : s.going ≡ None
+  pub halted : s.halted ≡ None
+
+pub record LeadsAfter (k : Kind) (list : k.Listed) (Now : StateIn k → Type 0) : Type 0 where
+  pub next : StateIn k
+  pub after : IsAfter k list next
+  pub now : Now next
+
+pub record LeadsToRest (k : Kind) (list : k.Listed) (Now : StateIn k → Type 0) : Type 0 where
+  pub next : StateIn k
+  pub list_is : next.list ≡ list
+  pub at_rest : IsAtRest k next
+  pub now : Now next
+
+-- a session is opened, tiles are asked for in it, and it is closed
+abbrev pub Sums : (w : Which) → (kind_of w).Listed → Result ℤ PopulateError → (StateIn (kind_of w) → Type 0) → Type 0
+Sums w list (Ok sum) Now = LeadsToRest (kind_of w) list Now
+Sums w list (Err Memory) Now = LeadsAfter (kind_of w) list Now
+Sums w list (Err Fault) Now = LeadsAfter (kind_of w) list Now
+Sums w list (Err (Damaged expected found)) Now = (kind_of w).Maybe (LeadsAfter (kind_of w) list Now)
+Sums w list (Err _) Now = ⊥

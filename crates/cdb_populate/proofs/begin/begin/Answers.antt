@@ -1,7 +1,0 @@
-use Rattle.cdb_populate.proofs.BeginLaws.{begins_by}
-use Rattle.cdb_populate.proofs.begin.begin.Goals as goal
-
-pub returns-clause-begins : goal.returns-clause-begins
-returns-clause-begins g c = λ w origin s x stays running idle drawn.
-    begins_by w s x _ running idle drawn c.publish.result c.begun.result c.begun.ensures.begun
-    (c.publish.ensures.begins w origin s stays)

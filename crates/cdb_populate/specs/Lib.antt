@@ -1,2 +1,0 @@
-pub mod Populating
-pub mod Filling
