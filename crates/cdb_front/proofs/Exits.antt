@@ -21,9 +21,9 @@ use Rattle.cdb_files.specs.Disk.{IsImage}
 use Rattle.cdb_files.specs.Moments.{AddsOnly}
 use Rattle.cdb_engine.specs.Store.{IsStore}
 use Rattle.cdb_front.specs.EntryStore.{HasStore, IsKnown}
-use Rattle.cdb_front.specs.Followed.{Sight, IsLeftBy, IsFollowed, IsBegun}
+use Rattle.cdb_front.proofs.Followed.{IsLeftBy, IsFollowed, IsBegun}
 use Rattle.cdb_front.specs.RunOutcome.{EndsFrom, EndsWith, Stops, Outcome, WasOpened, IsClosed, IsOfStore, StandsAtExit, IsAtRest, RestsAt}
-use Rattle.cdb_front.specs.RunProgress.{Entry, Holds, Runs, Ordered, Told, base_of}
+use Rattle.cdb_front.specs.RunProgress.{Sight, Entry, Holds, Runs, Ordered, Told, base_of}
 use Rattle.cdb_front.specs.declared.exit_status.Status.{Status}
 use Rattle.cdb_front.specs.declared.exit_status.Status.TheVariants.{Done, Memory, Usage, InputFault, OutputFault, StoreFault, NotAStore, TooLong, Differs, Refused, Damaged}
 

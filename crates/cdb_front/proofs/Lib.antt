@@ -4,6 +4,7 @@ pub mod Lines
 pub mod Walk
 pub mod RunProgress
 pub mod RunEnds
+pub mod Followed
 pub mod Exits
 pub mod Staying
 pub mod Giving

@@ -8,10 +8,15 @@ use Rattle.cdb_model.specs.Maps.{FileMap}
 use Rattle.cdb_model.specs.Text.{Text}
 use Rattle.cdb_chain.specs.declared.open_error.OpenError.{OpenError}
 use Rattle.cdb_chain.specs.declared.open_error.OpenError.TheVariants as refused
+use Rattle.cdb_manifest.specs.declared.record_.Record.{Record}
+use Rattle.cdb_check.specs.declared.outcome.CheckError.{CheckError}
+use Rattle.cdb_check.specs.declared.outcome.CheckError.TheVariants as check
+use Rattle.cdb_engine.specs.Checks.{AreOpened}
 use Rattle.cdb_engine.specs.Store.{IsFound, TellsNoStore}
-use Rattle.cdb_front.specs.Followed.{Sight}
-use Rattle.cdb_front.specs.RunOutcome.{Stops, IsOfStore, Hears, Makes, WritesAnswers, Finishes, SaysNoStore, WasOpened, IsClosed, status_of}
-use Rattle.cdb_front.specs.RunProgress.{Entry, Told, Sofar, Answered, IsQuit, Broken, UpTo}
+use Rattle.cdb_front.specs.Checking.{checked_status}
+use Rattle.cdb_front.specs.Failures.{ReadsOnce}
+use Rattle.cdb_front.specs.RunOutcome.{Stops, IsOfStore, Hears, Makes, WritesAnswers, Finishes, HasRecords, SaysStore, WasOpened, IsClosed, status_of}
+use Rattle.cdb_front.specs.RunProgress.{Sight, Entry, Told, Sofar, Answered, IsQuit, Broken, UpTo}
 use Rattle.cdb_front.specs.RunReading.{Reading}
 use Rattle.cdb_front.specs.declared.exit_status.Status.{Status}
 use Rattle.cdb_front.specs.declared.exit_status.Status.TheVariants.{Done, Memory, Usage, InputFault, OutputFault, StoreFault, NotAStore, TooLong, Differs, Refused, Damaged}
@@ -114,7 +119,7 @@ broken read unread left left' written shelf disk Now taken few small b finishes 
         items = b.items;
         unmade = b.unmade;
         items_are = b.items_are;
-        makes = tt;
+        makes = b.reaches;
         answers = t.whole ++ t.answer ∷ [];
         shelf_counted = t.shelf_counted;
         disk_counted = t.disk_counted;
@@ -230,7 +235,8 @@ cut_off : {tells : Type 0} {e : Entry} {left left' written : Option (List ℕ)} 
     {kept : Option (List ℕ)} {taken : ℕ} (status : Status) (left'' : Option (List ℕ))
     → (r : Reading tells e left left' written shelf disk Now kept taken) → Consumes left' left'' [] → taken ≤ 2 ^ 32
     → (heard : List Text) → Hears status r.sofar.lines r.sofar.rest heard
-    → items_of e.most heard ≡ items_of e.most r.sofar.lines → Makes status []
+    → items_of e.most heard ≡ items_of e.most r.sofar.lines
+    → Makes status e.most r.sofar.lines (items_of e.most r.sofar.lines) []
     → WritesAnswers status r.sofar.told.answers (texts_of r.sofar.told.answers)
     → Finishes status left'' r.read [] r.sofar.rest
     → Stops tells e shelf disk left left'' written Now status
@@ -304,39 +310,63 @@ stops_closed {tells = tells} {e = e} status left written shelf disk Now closed t
     by (Refused limit) c = absurd c
     by (Damaged expected found) c = absurd c
 
--- ---- no store
+-- ---- a store or none
 
 -- a run that ends with another status than it aimed at says nothing of the store
-pub says_no_store : (tells : Type 0) (present : FileMap) (status result : Status)
-    → ((result ≡ OutputFault → ⊥) → result ≡ status) → SaysNoStore tells present status
-    → SaysNoStore tells present result
-says_no_store tells present status OutputFault same says = tt
-says_no_store tells present status Done same says = tt
-says_no_store tells present status Memory same says = tt
-says_no_store tells present status Usage same says = tt
-says_no_store tells present status InputFault same says = tt
-says_no_store tells present status StoreFault same says = tt
-says_no_store tells present status TooLong same says = tt
-says_no_store tells present status (Differs path) same says = tt
-says_no_store tells present status (Refused limit) same says = tt
-says_no_store tells present status (Damaged expected found) same says = tt
-says_no_store tells present status (NotAStore version place) same says =
-    subst (λ (x : Status). SaysNoStore tells present x) (sym (same (λ e. cc))) says
+pub says_store : (tells : Type 0) (present : FileMap) (status result : Status)
+    → ((result ≡ OutputFault → ⊥) → result ≡ status) → SaysStore tells present status
+    → SaysStore tells present result
+says_store tells present status OutputFault same says = tt
+says_store tells present status Memory same says = tt
+says_store tells present status Usage same says = tt
+says_store tells present status StoreFault same says = tt
+says_store tells present status Done same says =
+    subst (λ (x : Status). SaysStore tells present x) (sym (same (λ e. cc))) says
+says_store tells present status InputFault same says =
+    subst (λ (x : Status). SaysStore tells present x) (sym (same (λ e. cc))) says
+says_store tells present status TooLong same says =
+    subst (λ (x : Status). SaysStore tells present x) (sym (same (λ e. cc))) says
+says_store tells present status (Differs path) same says =
+    subst (λ (x : Status). SaysStore tells present x) (sym (same (λ e. cc))) says
+says_store tells present status (Refused limit) same says =
+    subst (λ (x : Status). SaysStore tells present x) (sym (same (λ e. cc))) says
+says_store tells present status (Damaged expected found) same says =
+    subst (λ (x : Status). SaysStore tells present x) (sym (same (λ e. cc))) says
+says_store tells present status (NotAStore version place) same says =
+    subst (λ (x : Status). SaysStore tells present x) (sym (same (λ e. cc))) says
 
--- nor does one that opened it
-pub opened_says : (tells : Type 0) (present : FileMap) (status : Status) → WasOpened status
-    → SaysNoStore tells present status
-opened_says tells present Done o = tt
-opened_says tells present Memory o = tt
-opened_says tells present Usage o = tt
-opened_says tells present InputFault o = tt
-opened_says tells present OutputFault o = tt
-opened_says tells present StoreFault o = tt
-opened_says tells present TooLong o = tt
-opened_says tells present (Differs path) o = tt
-opened_says tells present (Refused limit) o = tt
-opened_says tells present (Damaged expected found) o = tt
-opened_says tells present (NotAStore version place) o = absurd o
+-- a run that came after opening
+pub opened_says : (tells : Type 0) (present left : FileMap) (records : List Record) (status : Status)
+    → (tells → AreOpened present left records) → ((version place : ℕ) → status ≡ NotAStore version place → ⊥)
+    → SaysStore tells present status
+opened_says tells present left records status opened is_one = by status is_one
+  where
+    has : tells → HasRecords present
+    has told = record { left = left; records = records; opened = opened told }
+
+    by : (status : Status) → ((version place : ℕ) → status ≡ NotAStore version place → ⊥)
+        → SaysStore tells present status
+    by Done is_one = has
+    by Memory is_one = tt
+    by Usage is_one = tt
+    by InputFault is_one = has
+    by OutputFault is_one = tt
+    by StoreFault is_one = tt
+    by TooLong is_one = has
+    by (Differs path) is_one = has
+    by (Refused limit) is_one = has
+    by (Damaged expected found) is_one = has
+    by (NotAStore version place) is_one = absurd (is_one version place refl)
+
+pub opened_is_one : (status : Status) → WasOpened status → (version place : ℕ) → status ≡ NotAStore version place → ⊥
+opened_is_one status o version place is = subst WasOpened is o
+
+pub checked_is_one : (error : CheckError) (status : Status) → status ≡ checked_status error → (version place : ℕ)
+    → status ≡ NotAStore version place → ⊥
+checked_is_one check.Memory status is version place e = let no : Memory ≡ NotAStore version place = sym is ∙ e in cc
+checked_is_one check.Fault status is version place e = let no : StoreFault ≡ NotAStore version place = sym is ∙ e in cc
+checked_is_one (check.Differs path) status is version place e =
+    let no : Differs path ≡ NotAStore version place = sym is ∙ e in cc
 
 -- a store that wasn't opened
 pub unopened_of_store : (error : OpenError) (status : Status) → status ≡ status_of error → IsFound error
@@ -350,12 +380,32 @@ unopened_of_store error status is found = subst (λ (x : Status). IsOfStore x) (
 
 pub unopened_says : (T : Type 0) (tells : Type 0) (present : FileMap) (error : OpenError) (status : Status)
     → status ≡ status_of error
-    → TellsNoStore {T = T} tells present (Err error) → SaysNoStore tells present status
-unopened_says T tells present error status is told = subst (λ (x : Status). SaysNoStore tells present x) (sym is)
+    → TellsNoStore {T = T} tells present (Err error) → SaysStore tells present status
+unopened_says T tells present error status is told = subst (λ (x : Status). SaysStore tells present x) (sym is)
     (by error told)
   where
     by : (error : OpenError) → TellsNoStore {T = T} tells present (Err error)
-        → SaysNoStore tells present (status_of error)
+        → SaysStore tells present (status_of error)
     by refused.Memory told = tt
     by refused.Fault told = tt
     by (refused.NotAStore version place) told = told
+
+-- ---- reads
+
+-- a run that ends neither as a read failed nor as a write did
+pub reads_whole : (status result : Status) (before now : ℕ) → ((result ≡ OutputFault → ⊥) → result ≡ status)
+    → ReadsOnce status before now → (result ≡ InputFault → ⊥) → (result ≡ OutputFault → ⊥) → now ≡ before
+reads_whole status result before now same once read wrote = by status once (λ e. read (same wrote ∙ e))
+  where
+    by : (status : Status) → ReadsOnce status before now → (status ≡ InputFault → ⊥) → now ≡ before
+    by InputFault once read = absurd (read refl)
+    by Done once read = once
+    by Memory once read = once
+    by Usage once read = once
+    by OutputFault once read = once
+    by StoreFault once read = once
+    by (NotAStore version place) once read = once
+    by TooLong once read = once
+    by (Differs path) once read = once
+    by (Refused limit) once read = once
+    by (Damaged expected found) once read = once

@@ -25,10 +25,9 @@ use Rattle.cdb_model.specs.declared.line.Line.TheVariants as line
 use Rattle.cdb_front.specs.AnswerMeanings.{meant, IsQuiet}
 use Rattle.cdb_front.specs.Devices.{WritesPart}
 use Rattle.cdb_engine.specs.Tracks.{Leads}
-use Rattle.cdb_front.specs.Followed.{Sight}
 use Rattle.cdb_front.specs.Hearing.{IsEvent, IsAnswered, SaysAsked}
 use Rattle.cdb_front.specs.Kept.{kept_of}
-use Rattle.cdb_front.specs.RunProgress.{Entry, Holds, Runs, Ordered, Told, Torn, TornIn, Speaks, Stammers, SpeaksFed, TellsFed, Sofar, Answered, IsQuit, IsNotQuit, TakesLine, UpTo}
+use Rattle.cdb_front.specs.RunProgress.{Sight, Entry, Holds, Runs, Ordered, Told, Torn, TornIn, Speaks, Stammers, SpeaksFed, TellsFed, Sofar, Answered, IsQuit, IsNotQuit, TakesLine, UpTo}
 use Rattle.cdb_front.specs.Stepping.{Counts}
 use Rattle.cdb_front.specs.declared.answers.Answer.{Answer}
 use Rattle.cdb_front.specs.declared.answers.Answer.TheVariants as answer
@@ -176,7 +175,8 @@ both_told {tells = tells} {e = e} {items = items} item trail fed.More w' shelf''
 both_told item trail fed.Quit w' shelf'' disk'' New told first second = absurd second
 both_told {tells = tells} {e = e} {items = items} item trail fed.Failed w' shelf'' disk'' New told first second =
     record {
-      made = item ∷ trail ∷ [];
+      first = item;
+      made = trail ∷ [];
       unmade = [];
       joined = refl;
       torn = subst (λ (l : List Item). Torn tells e l w' shelf'' disk'' New)
@@ -189,7 +189,8 @@ pub first_torn : {tells : Type 0} {e : Entry} {items : List Item} {written : Opt
     → Told tells e items written shelf disk Old → Stammers tells e.files item written w shelf shelf' disk disk' Old New
     → TornIn tells e items (item ∷ trail ∷ []) w shelf' disk' New
 first_torn item trail told first = record {
-  made = item ∷ [];
+  first = item;
+  made = [];
   unmade = trail ∷ [];
   joined = refl;
   torn = told_torn told first;
@@ -324,12 +325,13 @@ takes_event {e = e} fed.Failed now shelf' disk' New a event read_as s told =
       rest = s.rest;
       cut = s.cut;
       no_quit = s.no_quit;
-      items = items_of e.most s.lines ++ t.made;
+      items = items_of e.most s.lines ++ t.first ∷ t.made;
       unmade = t.unmade;
       items_are = items_of-more e.most s.lines s.rest
           ∙ ap (λ l. items_of e.most s.lines ++ l)
           (items_alone e.most (line_command s.rest) stands.0 stands.1 ∙ t.joined)
-          ∙ sym (append_assoc (items_of e.most s.lines) t.made t.unmade);
+          ∙ sym (append_assoc (items_of e.most s.lines) (t.first ∷ t.made) t.unmade);
+      reaches = record { first = t.first; made = t.made; items_are = refl };
       torn = t.torn;
     }
 

@@ -27,7 +27,7 @@ use Rattle.cdb_engine.specs.Tracks.{Works, Tracks, Leads}
 use Rattle.cdb_engine.proofs.StayLaws.{stays_shows, stays_alike}
 use Rattle.cdb_front.specs.EngineStays.{StaysWith, origin_of}
 use Rattle.cdb_front.specs.EntryStore.{HasStore}
-use Rattle.cdb_front.specs.Followed.{IsLeftBy, IsFollowed, IsBegun}
+use Rattle.cdb_front.proofs.Followed.{IsLeftBy, IsFollowed, IsBegun}
 use Rattle.cdb_front.specs.RunProgress.{Holds}
 use Rattle.cdb_front.specs.Sourcing.{LoadsFrom}
 use Rattle.cdb_front.proofs.Exits.{early_since}

@@ -17,13 +17,24 @@ use Rattle.cdb_model.specs.declared.line.Line.TheVariants as line
 use Rattle.cdb_engine.specs.Tracks.{Leads}
 use Rattle.cdb_front.specs.Hearing.{SaysAsked}
 use Rattle.cdb_engine.specs.StoreAnswers.{TriesIn, LeftIn, advance_answer}
-use Rattle.cdb_front.specs.Stepping.{Partway, Steps, step_end}
+use Rattle.cdb_front.specs.Stepping.{step_end}
 use Rattle.cdb_front.specs.declared.heard.Asked.{Asked}
 use Rattle.cdb_front.specs.declared.heard.Asked.TheVariants as asked
 use Rattle.cdb_publish.specs.declared.errors.Progress.{Progress}
 use Rattle.cdb_publish.specs.declared.errors.Progress.TheVariants as progress
 use Rattle.cdb_engine.specs.declared.errors.AdvanceError.{AdvanceError}
 use Rattle.cdb_engine.specs.declared.errors.AdvanceError.TheVariants as advance
+
+-- some steps of many were made, and what remains to be made leads to what all of them lead to
+pub record Partway (k : Kind) (most left : ℕ) (s : StateIn k) (Now : StateIn k → Type 0) : Type 0 where
+  pub mid : StateIn k
+  pub on : (answer : machine.Answer) (new : StateIn k) → MakesIn k left mid answer new → MakesIn k most s answer new
+  pub now : Now mid
+
+-- after a step was tried: some way further, or all were made that are to be made
+abbrev pub Steps : (k : Kind) → ℕ → ℕ → StateIn k → (StateIn k → Type 0) → Option machine.Answer → Type 0
+Steps k most left s Now None = Partway k most left s Now
+Steps k most left s Now (Some answer) = Leads (MakesIn k most s answer) Now
 
 pub partway_begins : (k : Kind) (most : ℕ) (s : StateIn k) (Now : StateIn k → Type 0) → Now s
     → Partway k most most s Now

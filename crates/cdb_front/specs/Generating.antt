@@ -1,19 +1,24 @@
 -- What a run of mode generate leaves and writes.
-use Rattle.std.specs.Prelude.{◌≡◌, ◌⊎◌, ℕ, ℤ, List, Option}
+use Rattle.std.specs.Prelude.{◌≡◌, ◌⊎◌, ℕ, ℤ, List, length, Option}
 use Rattle.std.specs.Io.KnownBytes.{Appends}
 use Rattle.cdb_model.specs.Causes.{Rose}
 use Rattle.cdb_model.specs.Images.{Base}
 use Rattle.cdb_model.specs.KnownStore.{State, start_at}
 use Rattle.cdb_model.specs.Maps.{FileMap}
 use Rattle.cdb_model.specs.Publications.{Publication}
-use Rattle.cdb_model.specs.Stores.{known}
+use Rattle.cdb_model.specs.Stands.{Stands}
+use Rattle.cdb_model.specs.Stores.{known, any, any_store}
+use Rattle.cdb_model.specs.Transitions.{StateIn}
 use Rattle.cdb_model.specs.Text.{Text}
 use Rattle.cdb_files.specs.Disk as disk
 use Rattle.cdb_files.specs.Disk.{IsImage}
+use Rattle.cdb_manifest.specs.declared.record_.Record.{Record}
+use Rattle.cdb_publish.specs.Entries.{entries_in}
+use Rattle.cdb_engine.specs.Checks.{AreOpened}
 use Rattle.cdb_generate.specs.Generated.{Generates, Summary, summary_text}
-use Rattle.cdb_populate.specs.Filling.{StopsAfter}
-use Rattle.cdb_populate.specs.declared.errors.PopulateError.{PopulateError}
-use Rattle.cdb_populate.specs.declared.errors.PopulateError.TheVariants as populate
+use Rattle.cdb_engine.specs.Filling.{StopsAfter}
+use Rattle.cdb_engine.specs.declared.errors.PopulateError.{PopulateError}
+use Rattle.cdb_engine.specs.declared.errors.PopulateError.TheVariants as populate
 use Rattle.cdb_front.specs.Completeness.{Still}
 use Rattle.cdb_front.specs.Devices.{WritesPart}
 use Rattle.cdb_front.specs.EntryStore.{HasStore}
@@ -62,10 +67,11 @@ abbrev pub error_of : Limit → PopulateError
 error_of (Entries count) = populate.Entries count
 error_of Versions = populate.Versions
 
--- the next publication of the generator would pass the limit
-pub record IsFull (list : List Publication) (start count : ℕ) (limit : Limit) : Type 0 where
+-- the next publication of the generator would pass the limit; a crash leaves those before it
+pub record IsFull (list : List Publication) (start count : ℕ) (limit : Limit) (Left : FileMap → Type 0) : Type 0 where
   pub next : State
   pub stops : StopsAfter known (start_at list) start count (error_of limit) next
+  pub at_exit : (m : FileMap) → Left m → Stands m next.list
 
 -- what was written tells of all publications, and a crash leaves them all
 pub record SumsUp (list begun : List Publication) (count : ℕ) (Left : FileMap → Type 0) (old new : Option (List ℕ))
@@ -78,7 +84,7 @@ pub record SumsUp (list begun : List Publication) (count : ℕ) (Left : FileMap 
 abbrev pub EndsMade : List Publication → ℕ → ℕ → List Publication → (FileMap → Type 0) → Option (List ℕ)
     → Option (List ℕ) → Status → Type 0
 EndsMade list start count begun Left old new Done = SumsUp list begun count Left old new
-EndsMade list start count begun Left old new (Refused limit) = IsFull list start count limit
+EndsMade list start count begun Left old new (Refused limit) = IsFull list start count limit Left
 EndsMade list start count begun Left old new (Damaged expected found) = ⊥
 EndsMade list start count begun Left old new (NotAStore version place) = ⊥
 EndsMade list start count begun Left old new status = Unit {0}
@@ -91,12 +97,31 @@ pub record FillsStore (base : Base) (start count : ℕ) (Since Left : FileMap �
   pub generates : Generates base start count Since begun
   pub ends : EndsMade base.list start count begun Left old new status
 
+-- ---- over a disk that tells
+
+-- the machine stops so, from the records of the store that was opened
+pub record StopsFrom (present : FileMap) (start count : ℕ) (error : PopulateError) : Type 0 where
+  pub left : FileMap
+  pub records : List Record
+  pub opened : AreOpened present left records
+  pub entry : StateIn any_store
+  pub list_is : entry.list ≡ record { versions = length records; entries = entries_in records }
+  pub next : StateIn any_store
+  pub stops : StopsAfter any entry start count error next
+
+-- so it does where a limit is told, or a file as damaged
+abbrev pub SaysStop : FileMap → ℕ → ℕ → Status → Type 0
+SaysStop present start count (Refused limit) = StopsFrom present start count (error_of limit)
+SaysStop present start count (Damaged expected found) = StopsFrom present start count (populate.Damaged expected found)
+SaysStop present start count status = Unit {0}
+
 -- ---- the whole run
 
 pub record Fills {D : Type 0} (tells : Type 0) (state : D → disk.State) (clock : D → ℕ)
     (since : D → ℕ → FileMap → Type 0) (start count : ℕ) (old new : D) (written written' : Option (List ℕ))
     (status : Status) : Type 0 where
   pub says : SaysMade written written' status
+  pub stop : tells → SaysStop (state old).present start count status
   pub store : (base : Base) → HasStore tells base (clock old) (state old)
       → FillsStore base start count (since new base.moment) (IsImage (state new)) written written' status
 

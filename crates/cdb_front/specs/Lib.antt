@@ -2,7 +2,6 @@ pub mod Devices
 pub mod Kept
 pub mod Hearing
 pub mod EntryStore
-pub mod Followed
 pub mod EngineStays
 pub mod Stepping
 pub mod Sourcing

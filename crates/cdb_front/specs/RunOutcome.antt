@@ -19,12 +19,13 @@ use Rattle.cdb_model.specs.Images.{Base, StandsKept, StandsForOne, StandsSince}
 use Rattle.cdb_crash.specs.Crash.{IsClear, IsWhole, IsFaulted}
 use Rattle.cdb_files.specs.Disk as disk
 use Rattle.cdb_files.specs.Disk.{IsImage}
+use Rattle.cdb_manifest.specs.declared.record_.Record.{Record}
 use Rattle.cdb_chain.specs.declared.open_error.OpenError.{OpenError}
 use Rattle.cdb_chain.specs.declared.open_error.OpenError.TheVariants as refused
+use Rattle.cdb_engine.specs.Checks.{AreOpened}
 use Rattle.cdb_engine.specs.Store.{IsNoStore}
 use Rattle.cdb_front.specs.Devices.{WritesPart}
-use Rattle.cdb_front.specs.Followed.{Sight}
-use Rattle.cdb_front.specs.RunProgress.{Entry, Holds, Runs, Ordered}
+use Rattle.cdb_front.specs.RunProgress.{Sight, Entry, Holds, Runs, Ordered, ReachesLast}
 use Rattle.cdb_front.specs.StatusCodes.{status_line}
 use Rattle.cdb_front.specs.Stepping.{Counts}
 use Rattle.cdb_front.specs.declared.exit_status.Status.{Status}
@@ -41,10 +42,11 @@ Hears InputFault lines rest heard = heard ≡ lines
 Hears TooLong lines rest heard = heard ≡ lines
 Hears status lines rest heard = heard ≡ []
 
--- all items had their turn, but for the last of a line whose answer wasn't written whole
-abbrev pub Makes : Status → List Item → Type 0
-Makes OutputFault unmade = Unit {0}
-Makes status unmade = unmade ≡ []
+-- all items had their turn; or, where the output failed, all of the lines before the last one, and at least the first
+-- of the last one
+abbrev pub Makes : Status → ℕ → List Text → List Item → List Item → Type 0
+Makes OutputFault most lines items unmade = ReachesLast most lines items
+Makes status most lines items unmade = unmade ≡ []
 
 -- the answers but the last were written whole, and of the last one a part, and not all
 pub record IsPartOf (answers : List machine.Answer) (wrote : Text) : Type 0 where
@@ -102,7 +104,7 @@ pub record Transcript (e : Entry) (shelf disk : ℕ) (left left' written : Optio
   pub items : List Item
   pub unmade : List Item
   pub items_are : items_of e.most heard ≡ items ++ unmade
-  pub makes : Makes status unmade
+  pub makes : Makes status e.most lines items unmade
   pub answers : List machine.Answer
   -- no more of them say that the shelf failed, or the disk, than its count rose by
   pub shelf_counted : Counts shelf_fault e.shelf shelf answers
@@ -203,10 +205,21 @@ abbrev pub EndsFrom : (Text → Content → Type 0) → Option Base → Status �
 EndsFrom Has None status items answers wrote Since d = Unit {0}
 EndsFrom Has (Some base) status items answers wrote Since d = Ended Has base status items answers wrote Since d
 
--- no store was opened since the files that were there are none, where the disk tells
-abbrev pub SaysNoStore : Type 0 → FileMap → Status → Type 0
-SaysNoStore tells present (NotAStore version place) = tells → IsNoStore present version place
-SaysNoStore tells present status = Unit {0}
+-- the files that were there name a newest version, and the record of each version up to it is read
+pub record HasRecords (present : FileMap) : Type 0 where
+  pub left : FileMap
+  pub records : List Record
+  pub opened : AreOpened present left records
+
+-- where the disk tells: no store was opened since the files that were there are none; and a status that comes after
+-- opening comes where they are one
+abbrev pub SaysStore : Type 0 → FileMap → Status → Type 0
+SaysStore tells present (NotAStore version place) = tells → IsNoStore present version place
+SaysStore tells present Memory = Unit {0}
+SaysStore tells present Usage = Unit {0}
+SaysStore tells present OutputFault = Unit {0}
+SaysStore tells present StoreFault = Unit {0}
+SaysStore tells present status = tells → HasRecords present
 
 -- ---- the whole run
 
@@ -219,6 +232,17 @@ pub record Outcome (tells : Type 0) (e : Entry) (shelf faults : ℕ) (left left'
   pub run : EndsFrom (Holds tells e.files) e.from status transcript.items transcript.answers transcript.wrote Since d
   pub order : Ordered (Holds tells e.files) transcript.items transcript.answers (λ s. Unit {0})
   pub ends : EndsWith status written written' result
+
+-- ---- words that are refused
+
+-- the words aren't options of the program, or memory for them was refused: the line of that status is written, and no
+-- other device is used
+pub record TurnsAway {D H I : Type 0} (disk disk' : D) (shelf shelf' : H) (input input' : I)
+    (old new : Option (List ℕ)) (result : Status) : Type 0 where
+  pub disk_is : disk' ≡ disk
+  pub shelf_is : shelf' ≡ shelf
+  pub input_is : input' ≡ input
+  pub says : EndsWith Usage old new result ⊎ EndsWith Memory old new result
 
 -- ---- an input that ends in time
 

@@ -15,11 +15,14 @@ use Rattle.cdb_model.specs.AnswerTexts.{text_of, texts_of, shelf_fault, disk_fau
 use Rattle.cdb_model.specs.Images.{Base}
 use Rattle.cdb_front.specs.Devices.{WritesPart}
 use Rattle.cdb_engine.specs.Tracks.{Leads}
-use Rattle.cdb_front.specs.Followed.{Sight}
 use Rattle.cdb_front.specs.Kept.{kept_of}
 use Rattle.cdb_front.specs.Stepping.{Counts}
 use Rattle.cdb_front.specs.declared.fed.Fed.{Fed}
 use Rattle.cdb_front.specs.declared.fed.Fed.TheVariants as fed
+
+-- states of a known store, and of any
+abbrev pub Sight : Type 1
+Sight = (w : Which) → StateIn (kind_of w) → Type 0
 
 -- what a run began with: the files of the shelf, the counts of failures of shelf and disk, what was written before, the
 -- store on the disk, where that is known, and how many steps follow a line
@@ -130,6 +133,12 @@ IsQuit line = line_command line ≡ said.quit
 abbrev pub IsNotQuit : Text → Type 0
 IsNotQuit line = line_command line ≢ said.quit
 
+-- all items of the lines before the last one had their turn, and at least the first of the last one
+pub record ReachesLast (most : ℕ) (lines : List Text) (items : List Item) : Type 0 where
+  pub first : Item
+  pub made : List Item
+  pub items_are : items ≡ items_of most lines ++ first ∷ made
+
 -- the last answer to what was read wasn't written whole; some items of the last line may not have come to their turn
 pub record Broken (tells : Type 0) (e : Entry) (read : Text) (written : Option (List ℕ)) (shelf disk : ℕ)
     (Now : Sight) : Type 0 where
@@ -140,6 +149,7 @@ pub record Broken (tells : Type 0) (e : Entry) (read : Text) (written : Option (
   pub items : List Item
   pub unmade : List Item
   pub items_are : items_of e.most (lines ++ rest ∷ []) ≡ items ++ unmade
+  pub reaches : ReachesLast e.most lines items
   pub torn : Torn tells e items written shelf disk Now
 
 -- a line was taken
@@ -175,22 +185,13 @@ TakesPiece tells e fed.Failed read piece written shelf disk Now kept = UpTo piec
 -- a line was answered, but for a part of the last answer
 pub record TornIn (tells : Type 0) (e : Entry) (items more : List Item) (written : Option (List ℕ)) (shelf disk : ℕ)
     (Now : Sight) : Type 0 where
+  pub first : Item
   pub made : List Item
   pub unmade : List Item
-  pub joined : more ≡ made ++ unmade
-  pub torn : Torn tells e (items ++ made) written shelf disk Now
+  pub joined : more ≡ first ∷ made ++ unmade
+  pub torn : Torn tells e (items ++ first ∷ made) written shelf disk Now
 
 abbrev pub TellsFed : Type 0 → Entry → Fed → List Item → List Item → Option (List ℕ) → ℕ → ℕ → Sight → Type 0
 TellsFed tells e fed.More items more written shelf disk Now = Told tells e (items ++ more) written shelf disk Now
 TellsFed tells e fed.Quit items more written shelf disk Now = ⊥
 TellsFed tells e fed.Failed items more written shelf disk Now = TornIn tells e items more written shelf disk Now
-
--- where the store is known, the state of its list is one of now
-abbrev pub Starts : Option Base → (State → Type 0) → Type 0
-Starts None Now = Unit {0}
-Starts (Some base) Now = Now (start_at base.list)
-
--- of a store that wasn't opened
-abbrev pub Shut : Option Base → (w : Which) → StateIn (kind_of w) → Type 0
-Shut from known s = Starts from (λ t. s ≡ t)
-Shut from any s = Unit {0}

@@ -2,8 +2,7 @@
 use Rattle.std.specs.Prelude.{◌≡◌, ℕ, ◌+◌, ◌<◌, ◌≤◌, List, length, Option}
 use Rattle.std.specs.Io.KnownBytes.{Consumes}
 use Rattle.cdb_model.specs.Text.{Text}
-use Rattle.cdb_front.specs.Followed.{Sight}
-use Rattle.cdb_front.specs.RunProgress.{Entry, Sofar}
+use Rattle.cdb_front.specs.RunProgress.{Sight, Entry, Sofar}
 use Rattle.cdb_front.specs.RunOutcome.{Stops, WasOpened}
 use Rattle.cdb_front.specs.declared.read_turn.Turned.{Turned}
 use Rattle.cdb_front.specs.declared.read_turn.Turned.TheVariants.{Taken, Stopped}

@@ -2,11 +2,8 @@
 use Rattle.std.specs.Prelude.{ℕ, ◌+◌, ◌-◌, ◌^◌, ◌<◌, ◌≤◌, List, Option, None, Some, Result, Ok, Err}
 use Rattle.cdb_model.specs.AnswerTexts.{tally}
 use Rattle.cdb_model.specs.Events as machine
-use Rattle.cdb_model.specs.Stores.{Kind}
-use Rattle.cdb_model.specs.Transitions.{StateIn, MakesIn}
 use Rattle.cdb_publish.specs.declared.errors.Progress.{Progress}
 use Rattle.cdb_publish.specs.declared.errors.Progress.TheVariants as progress
-use Rattle.cdb_engine.specs.Tracks.{Leads}
 use Rattle.cdb_engine.specs.declared.errors.AdvanceError.{AdvanceError}
 use Rattle.cdb_engine.specs.declared.errors.AdvanceError.TheVariants as advance
 
@@ -22,16 +19,3 @@ step_end (Err advance.Halted) = Some machine.going
 step_end (Err advance.Nothing) = Some machine.going
 step_end (Err advance.Fault) = Some machine.fault
 step_end (Err (advance.Damaged expected found)) = Some (machine.damaged expected found)
-
--- ---- many steps
-
--- some steps of many were made, and what remains to be made leads to what all of them lead to
-pub record Partway (k : Kind) (most left : ℕ) (s : StateIn k) (Now : StateIn k → Type 0) : Type 0 where
-  pub mid : StateIn k
-  pub on : (answer : machine.Answer) (new : StateIn k) → MakesIn k left mid answer new → MakesIn k most s answer new
-  pub now : Now mid
-
--- after a step was tried: some way further, or all were made that are to be made
-abbrev pub Steps : (k : Kind) → ℕ → ℕ → StateIn k → (StateIn k → Type 0) → Option machine.Answer → Type 0
-Steps k most left s Now None = Partway k most left s Now
-Steps k most left s Now (Some answer) = Leads (MakesIn k most s answer) Now

@@ -5,17 +5,16 @@ ghost use Rattle.cdb_model.specs.Causes.{Rose, HasCause};
 ghost use Rattle.cdb_front.specs.Checking.{Checks, agrees_line, checked_status};
 ghost use Rattle.cdb_front.specs.Devices.{WritesPart};
 ghost use Rattle.cdb_front.specs.Failures.{FailsOnce, WritesOnce};
-ghost use Rattle.cdb_front.specs.RunOutcome.{SaysNoStore};
+ghost use Rattle.cdb_front.specs.RunOutcome.{SaysStore};
 
 use crate::answer_text::line_with_two;
 use crate::end_run::end;
 use crate::exit_status::Status;
-use crate::failed::Failed;
 use crate::opened_run::unopened;
 use crate::output::Output;
 use crate::write::write_all;
 use cdb_engine::{Agreed, CheckError, Engine};
-use cdb_files::Disk;
+use cdb_files::{Disk, Failed};
 use std::alloc::Global;
 
 /// How a run ends whose check failed.
@@ -51,7 +50,7 @@ pub fn check_over<D: Disk, O: Output>(alloc: Global, disk: &mut D, output: &mut 
     ensures checks { Checks D.tells D.state D.clock D.since disk.old disk.new (O.written output.old)
         (O.written output.new) result }
     ensures store_failed { result ≡ Status.StoreFault → Rose (D.fault_count disk.old) (D.fault_count disk.new) }
-    ensures no_store { SaysNoStore D.tells (D.state disk.old).present result }
+    ensures store { SaysStore D.tells (D.state disk.old).present result }
     ensures one_write_fails { WritesOnce result (O.fault_count output.old) (O.fault_count output.new) }
     ensures output_failed { result ≡ Status.OutputFault → Rose (O.fault_count output.old) (O.fault_count output.new) }
     ensures words { result ≢ Status.Usage }

@@ -7,19 +7,17 @@ ghost use Rattle.cdb_generate.specs.Generated.{summary_text, sum_line as line_of
 ghost use Rattle.cdb_front.specs.Devices.{WritesPart};
 ghost use Rattle.cdb_front.specs.Failures.{FailsOnce, WritesOnce};
 ghost use Rattle.cdb_front.specs.Generating.{Fills, made_status};
-ghost use Rattle.cdb_front.specs.RunOutcome.{SaysNoStore};
+ghost use Rattle.cdb_front.specs.RunOutcome.{SaysStore};
 
 use crate::answer_text::{line, line_with, word};
 use crate::end_run::end;
 use crate::exit_status::{Limit, Status};
-use crate::failed::Failed;
 use crate::opened_run::unopened;
 use crate::output::Output;
 use crate::write::write_all;
 use arrayvec::ArrayString;
-use cdb_engine::Engine;
-use cdb_files::Disk;
-use cdb_populate::{Made, PopulateError, populate};
+use cdb_engine::{Engine, Made, PopulateError, populate};
+use cdb_files::{Disk, Failed};
 use itoa::Buffer;
 use std::alloc::Global;
 
@@ -84,7 +82,7 @@ pub fn fill_over<D: Disk, O: Output>(
     ensures fills { Fills D.tells D.state D.clock D.since start count disk.old disk.new (O.written output.old)
         (O.written output.new) result }
     ensures store_failed { result ≡ Status.StoreFault → Rose (D.fault_count disk.old) (D.fault_count disk.new) }
-    ensures no_store { SaysNoStore D.tells (D.state disk.old).present result }
+    ensures store { SaysStore D.tells (D.state disk.old).present result }
     ensures one_write_fails { WritesOnce result (O.fault_count output.old) (O.fault_count output.new) }
     ensures output_failed { result ≡ Status.OutputFault → Rose (O.fault_count output.old) (O.fault_count output.new) }
     ensures words { result ≢ Status.Usage }

@@ -8,7 +8,6 @@ mod end_run;
 mod engine_calls;
 mod engine_lines;
 mod exit_status;
-mod failed;
 mod fed;
 mod filled_run;
 mod heard;
@@ -31,8 +30,8 @@ mod store_calls;
 mod worded_run;
 mod write;
 
+pub use cdb_files::Failed;
 pub use exit_status::{Limit, Status};
-pub use failed::Failed;
 pub use input::Input;
 pub use mem_input::MemInput;
 pub use mem_output::MemOutput;

@@ -4,8 +4,8 @@ ghost use Rattle.cdb_model.specs.Causes.{HasCause};
 ghost use Rattle.cdb_front.specs.Devices.{Supply};
 ghost use Rattle.cdb_front.specs.Failures.{FailsOnce};
 
-use crate::failed::Failed;
 use crate::input::Input;
+use cdb_files::Failed;
 use std::marker::Model;
 
 /// An input in memory. Its calls are numbered from 1, and those in a list fail.

@@ -4,8 +4,8 @@ ghost use Rattle.cdb_model.specs.Causes.{HasCause};
 ghost use Rattle.cdb_front.specs.Devices.{WritesLess, Receipt};
 ghost use Rattle.cdb_front.specs.Failures.{FailsOnce};
 
-use crate::failed::Failed;
 use crate::output::Output;
+use cdb_files::Failed;
 use std::alloc::Global;
 use std::marker::Model;
 

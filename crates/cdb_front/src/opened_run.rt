@@ -2,7 +2,7 @@ ghost use Rattle.std.specs.Prelude.{◌≡◌, ◌≢◌, ◌+◌, ◌≤◌, �
 ghost use Rattle.cdb_model.specs.Causes.{Rose};
 ghost use Rattle.cdb_front.specs.Failures.{WritesOnce};
 ghost use Rattle.cdb_front.specs.Headline.{MeetsOf};
-ghost use Rattle.cdb_front.specs.RunOutcome.{QuitsInTime, SaysNoStore, IsClosed, status_of};
+ghost use Rattle.cdb_front.specs.RunOutcome.{QuitsInTime, SaysStore, IsClosed, status_of};
 
 use crate::end_run::end;
 use crate::exit_status::Status;
@@ -44,7 +44,9 @@ pub fn run_over<D: Disk, H: Shelf, I: Input, O: Output>(
     ensures quits { IfSome (I.left input.old) (λ bytes. QuitsInTime bytes → result ≢ Status.TooLong) }
     ensures input_failed { result ≡ Status.InputFault → Rose (I.fault_count input.old) (I.fault_count input.new) }
     ensures store_failed { result ≡ Status.StoreFault → Rose (D.fault_count disk.old) (D.fault_count disk.new) }
-    ensures no_store { SaysNoStore D.tells (D.state disk.old).present result }
+    ensures store { SaysStore D.tells (D.state disk.old).present result }
+    ensures no_read_fails { result ≢ Status.InputFault → result ≢ Status.OutputFault
+        → I.fault_count input.new ≡ I.fault_count input.old }
     ensures one_read_fails { I.fault_count input.new ≤ I.fault_count input.old + 1 }
     ensures one_write_fails { WritesOnce result (O.fault_count output.old) (O.fault_count output.new) }
     ensures output_failed { result ≡ Status.OutputFault → Rose (O.fault_count output.old) (O.fault_count output.new) }

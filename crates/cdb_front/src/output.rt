@@ -4,7 +4,7 @@ ghost use Rattle.cdb_model.specs.Causes.{HasCause};
 ghost use Rattle.cdb_front.specs.Devices.{WritesLess};
 ghost use Rattle.cdb_front.specs.Failures.{FailsOnce};
 
-use crate::failed::Failed;
+use cdb_files::Failed;
 
 /// Where the answers go.
 pub trait Output {

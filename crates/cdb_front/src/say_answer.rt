@@ -8,9 +8,9 @@ ghost use Rattle.cdb_front.specs.Failures.{FailsOnce};
 
 use crate::answer_text::head;
 use crate::answers::Answer;
-use crate::failed::Failed;
 use crate::output::Output;
 use crate::write::{write_all, write_both};
+use cdb_files::Failed;
 
 /// Writes an answer: its line, and after the line of a tile the tile's bytes, which are `reply`.
 #[tactic(auto, unfolding(cdb_model::specs::AnswerTexts::text_of))]

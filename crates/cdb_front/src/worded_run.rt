@@ -1,4 +1,4 @@
-ghost use Rattle.std.specs.Prelude.{◌≡◌, ◌≢◌, ◌+◌, ◌⊎◌, ◌≤◌, None, Some, map};
+ghost use Rattle.std.specs.Prelude.{◌≡◌, ◌≢◌, ◌+◌, ◌≤◌, None, Some, map};
 ghost use Rattle.cdb_commands.specs.Options.{options_of};
 ghost use Rattle.cdb_commands.specs.declared.options.Mode.TheVariants.{Run, Check, Generate};
 ghost use Rattle.cdb_commands.specs.declared.options.Options.{Options as given};
@@ -7,7 +7,7 @@ ghost use Rattle.cdb_front.specs.Checking.{Checks};
 ghost use Rattle.cdb_front.specs.Failures.{WritesOnce};
 ghost use Rattle.cdb_front.specs.Generating.{Fills};
 ghost use Rattle.cdb_front.specs.Headline.{MeetsOf};
-ghost use Rattle.cdb_front.specs.RunOutcome.{SaysNoStore};
+ghost use Rattle.cdb_front.specs.RunOutcome.{SaysStore, TurnsAway};
 
 use crate::checked_run::check_over;
 use crate::end_run::end;
@@ -65,10 +65,13 @@ pub fn cdb_run<D: Disk, H: Shelf, I: Input, O: Output>(
         → options.mode ≢ Run → (input.new ≡ input.old) × (shelf.new ≡ shelf.old) }
     ensures usage { result ≡ Status.Usage → options_of (map (λ s. s.now) words.now) ≡ None }
     ensures refused { options_of (map (λ s. s.now) words.now) ≡ None
-        → (result ≡ Status.Usage) ⊎ ((result ≡ Status.Memory) ⊎ (result ≡ Status.OutputFault)) }
+        → TurnsAway disk.old disk.new shelf.old shelf.new input.old input.new (O.written output.old)
+        (O.written output.new) result }
     ensures input_failed { result ≡ Status.InputFault → Rose (I.fault_count input.old) (I.fault_count input.new) }
     ensures store_failed { result ≡ Status.StoreFault → Rose (D.fault_count disk.old) (D.fault_count disk.new) }
-    ensures no_store { SaysNoStore D.tells (D.state disk.old).present result }
+    ensures store { SaysStore D.tells (D.state disk.old).present result }
+    ensures no_read_fails { result ≢ Status.InputFault → result ≢ Status.OutputFault
+        → I.fault_count input.new ≡ I.fault_count input.old }
     ensures one_read_fails { I.fault_count input.new ≤ I.fault_count input.old + 1 }
     ensures one_write_fails { WritesOnce result (O.fault_count output.old) (O.fault_count output.new) }
     ensures output_failed { result ≡ Status.OutputFault → Rose (O.fault_count output.old) (O.fault_count output.new) }

@@ -4,8 +4,8 @@ ghost use Rattle.cdb_model.specs.Causes.{HasCause};
 ghost use Rattle.cdb_front.specs.Devices.{WritesPart};
 ghost use Rattle.cdb_front.specs.Failures.{FailsOnce};
 
-use crate::failed::Failed;
 use crate::output::Output;
+use cdb_files::Failed;
 
 /// Writes the whole piece, or fails with a part of it written.
 #[tactic(auto, using(crate::proofs::Writing::begins, crate::proofs::Writing::goes_on, crate::proofs::Writing::ends, crate::proofs::Writing::breaks))]

@@ -1,5 +1,6 @@
 use Rattle.cdb_front.proofs.Checking.{checks_unopened, checks_refused, checks_agreed, checks_torn}
-use Rattle.cdb_front.proofs.RunEnds.{says_no_store, unopened_says}
+use Rattle.cdb_front.specs.declared.exit_status.Status.TheVariants.{Done}
+use Rattle.cdb_front.proofs.RunEnds.{says_store, opened_says, checked_is_one, unopened_says}
 use Rattle.cdb_front.proofs.checked_run.check_over.Goals as goal
 
 pub returns-in-Err-clause-checks : goal.returns-in-Err-clause-checks
@@ -10,9 +11,9 @@ returns-in-Err-clause-checks g c =
     (g.O.Output.written c.end.new.output) c.in-Err.error c.unopened.result c.end.result c.unopened.ensures.status
     c.in-Err.ensures.store c.end.ensures.ends
 
-pub returns-in-Err-clause-no_store : goal.returns-in-Err-clause-no_store
-returns-in-Err-clause-no_store g c =
-    says_no_store g.D.Disk.tells (g.D.Disk.state c.args.disk.now).present c.unopened.result c.end.result
+pub returns-in-Err-clause-store : goal.returns-in-Err-clause-store
+returns-in-Err-clause-store g c =
+    says_store g.D.Disk.tells (g.D.Disk.state c.args.disk.now).present c.unopened.result c.end.result
     c.end.ensures.same
     (unopened_says Unit g.D.Disk.tells (g.D.Disk.state c.args.disk.now).present c.in-Err.error c.unopened.result
     c.unopened.ensures.status c.in-Err.ensures.no_store)
@@ -45,3 +46,16 @@ returns-clause-checks g c =
     g.D.Disk.fault_count c.in-Ok.ensures.read c.in-Ok.ensures.begins c.check.ensures.looks
     c.in-Err-check.error c.unagreed.result c.end-in-Err-check.result c.unagreed.ensures.status
     c.in-Err-check.ensures.finds c.in-Err-check.ensures.agrees c.end-in-Err-check.ensures.ends
+
+pub returns-in-Ok-say_agreed-clause-store : goal.returns-in-Ok-say_agreed-clause-store
+returns-in-Ok-say_agreed-clause-store g c =
+    opened_says g.D.Disk.tells (g.D.Disk.state c.args.disk.now).present (g.D.Disk.state c.open.new.disk).present
+    c.in-Ok.engine.chain.records Done c.in-Ok.ensures.read (λ version place e. cc)
+
+pub returns-clause-store : goal.returns-clause-store
+returns-clause-store g c =
+    says_store g.D.Disk.tells (g.D.Disk.state c.args.disk.now).present c.unagreed.result c.end-in-Err-check.result
+    c.end-in-Err-check.ensures.same
+    (opened_says g.D.Disk.tells (g.D.Disk.state c.args.disk.now).present (g.D.Disk.state c.open.new.disk).present
+    c.in-Ok.engine.chain.records c.unagreed.result c.in-Ok.ensures.read
+    (checked_is_one c.in-Err-check.error c.unagreed.result c.unagreed.ensures.status))

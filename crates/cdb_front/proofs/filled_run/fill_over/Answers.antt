@@ -1,10 +1,13 @@
-use Rattle.std.proofs.Common.{refl}
+use Rattle.std.proofs.Common.{None, refl}
 use Rattle.cdb_model.specs.KnownStore.{start_at}
-use Rattle.cdb_model.specs.Stores.{known}
+use Rattle.cdb_model.specs.Stores.{known, any}
+use Rattle.cdb_engine.specs.Stays.{bare_of}
+use Rattle.cdb_front.specs.RunProgress.{base_of}
+use Rattle.cdb_front.specs.declared.exit_status.Status.TheVariants.{Done}
 use Rattle.cdb_front.specs.EngineStays.{origin_of}
-use Rattle.cdb_front.proofs.Generating.{fills_unopened, fills_stopped, fills_all, fills_torn}
-use Rattle.cdb_front.proofs.RunEnds.{says_no_store, unopened_says}
-use Rattle.cdb_front.proofs.Staying.{stays_opened}
+use Rattle.cdb_front.proofs.Generating.{fills_unopened, fills_stopped, fills_all, fills_torn, stopped_is_one}
+use Rattle.cdb_front.proofs.RunEnds.{says_store, opened_says, unopened_says}
+use Rattle.cdb_front.proofs.Staying.{stays_opened, stays_followed}
 use Rattle.cdb_front.proofs.filled_run.fill_over.Goals as goal
 
 pub returns-in-Err-clause-fills : goal.returns-in-Err-clause-fills
@@ -14,9 +17,9 @@ returns-in-Err-clause-fills g c =
     (g.O.Output.written c.end.new.output) c.open.new.disk c.open.ensures.moments c.in-Err.error c.unopened.result
     c.end.result c.unopened.ensures.status c.in-Err.ensures.store c.end.ensures.ends
 
-pub returns-in-Err-clause-no_store : goal.returns-in-Err-clause-no_store
-returns-in-Err-clause-no_store g c =
-    says_no_store g.D.Disk.tells (g.D.Disk.state c.args.disk.now).present c.unopened.result c.end.result
+pub returns-in-Err-clause-store : goal.returns-in-Err-clause-store
+returns-in-Err-clause-store g c =
+    says_store g.D.Disk.tells (g.D.Disk.state c.args.disk.now).present c.unopened.result c.end.result
     c.end.ensures.same
     (unopened_says Unit g.D.Disk.tells (g.D.Disk.state c.args.disk.now).present c.in-Err.error c.unopened.result
     c.unopened.ensures.status c.in-Err.ensures.no_store)
@@ -43,16 +46,41 @@ returns-in-Ok-populate-clause-fills g c =
 
 pub returns-clause-fills : goal.returns-clause-fills
 returns-clause-fills g c =
+    let fresh = c.in-Ok.ensures.fresh in
+    let last = c.in-Err-populate.ensures.follows any (origin_of (base_of None)) (bare_of c.in-Ok.engine)
+    record { is = refl }
+    record { pending = fresh.pending; going = fresh.going; halted = fresh.halted; sessions = fresh.sessions } in
     fills_stopped g.D.Disk.tells g.D.Disk.state g.D.Disk.clock g.D.Disk.since c.args.disk.now
     (g.met.D.Disk.only_now c.args.disk.now) c.args.start c.args.count (g.O.Output.written c.args.output.now)
     (g.O.Output.written c.end-in-Err-populate.new.output) c.populate.new.disk c.in-Err-populate.error c.unmade.result
-    c.end-in-Err-populate.result c.unmade.ensures.status
+    c.end-in-Err-populate.result c.unmade.ensures.status (g.D.Disk.state c.open.new.disk).present
+    c.in-Ok.engine.chain.records c.in-Ok.ensures.read (bare_of c.in-Ok.engine) refl
+    last.next last.step
     (λ base has. let l = c.in-Err-populate.ensures.follows known (origin_of base) (start_at base.list)
     (stays_opened g.D.Disk.tells g.D.Disk.clock g.D.Disk.fault_count g.D.Disk.since g.D.Disk.state base
     c.args.disk.now c.open.new.disk c.in-Ok.engine has (c.in-Ok.ensures.begins has.told base.list base.early has.store)
     (c.open.ensures.moments has.told base.list base.early has.store) (g.met.D.Disk.only_now c.args.disk.now))
-    record { pending = refl; going = refl; halted = refl; sessions = refl } in (l.next, l.step))
+    record { pending = refl; going = refl; halted = refl; sessions = refl } in record {
+      next = l.next;
+      step = l.step;
+      rests = λ running m image. ((stays_followed g.D.Disk.tells g.D.Disk.clock g.D.Disk.fault_count g.D.Disk.since
+          g.D.Disk.state base c.populate.new.disk c.populate.new.engine l.next l.now).left.whole running).stands m image;
+    })
     (λ base has. c.in-Err-populate.ensures.populates base 0
     (stays_opened g.D.Disk.tells g.D.Disk.clock g.D.Disk.fault_count g.D.Disk.since g.D.Disk.state base
     c.args.disk.now c.open.new.disk c.in-Ok.engine has (c.in-Ok.ensures.begins has.told base.list base.early has.store)
-    (c.open.ensures.moments has.told base.list base.early has.store) (g.met.D.Disk.only_now c.args.disk.now))) c.end-in-Err-populate.ensures.ends
+    (c.open.ensures.moments has.told base.list base.early has.store) (g.met.D.Disk.only_now c.args.disk.now)))
+    c.end-in-Err-populate.ensures.ends
+
+pub returns-in-Ok-say_made-clause-store : goal.returns-in-Ok-say_made-clause-store
+returns-in-Ok-say_made-clause-store g c =
+    opened_says g.D.Disk.tells (g.D.Disk.state c.args.disk.now).present (g.D.Disk.state c.open.new.disk).present
+    c.in-Ok.engine.chain.records Done c.in-Ok.ensures.read (λ version place e. cc)
+
+pub returns-clause-store : goal.returns-clause-store
+returns-clause-store g c =
+    says_store g.D.Disk.tells (g.D.Disk.state c.args.disk.now).present c.unmade.result c.end-in-Err-populate.result
+    c.end-in-Err-populate.ensures.same
+    (opened_says g.D.Disk.tells (g.D.Disk.state c.args.disk.now).present (g.D.Disk.state c.open.new.disk).present
+    c.in-Ok.engine.chain.records c.unmade.result c.in-Ok.ensures.read
+    (stopped_is_one c.in-Err-populate.error c.unmade.result c.unmade.ensures.status))

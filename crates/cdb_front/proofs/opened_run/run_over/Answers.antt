@@ -6,7 +6,7 @@ use Rattle.cdb_front.specs.EngineStays.{StaysWith}
 use Rattle.cdb_front.specs.RunProgress.{Entry, Holds, base_of}
 use Rattle.cdb_front.proofs.Exits.{ended, opens, told_begins, told_shut, closed, outcome, Shut}
 use Rattle.cdb_front.proofs.InTime.{in_time, quits}
-use Rattle.cdb_front.proofs.RunEnds.{stops_closed, says_no_store, opened_says, unopened_of_store, unopened_says}
+use Rattle.cdb_front.proofs.RunEnds.{stops_closed, says_store, opened_says, opened_is_one, reads_whole, unopened_of_store, unopened_says}
 use Rattle.cdb_front.proofs.Staying.{stays_opened, stays_bare, stays_followed}
 use Rattle.cdb_front.proofs.opened_run.run_over.Goals as goal
 
@@ -83,16 +83,22 @@ returns-in-Err-clause-in_time g c = in_time c.end-in-Err.result (returns-in-Err-
 pub returns-in-Err-clause-quits : goal.returns-in-Err-clause-quits
 returns-in-Err-clause-quits g c = quits c.end-in-Err.result (returns-in-Err-clause-outcome g c None tt)
 
-pub returns-in-Ok-clause-no_store : goal.returns-in-Ok-clause-no_store
-returns-in-Ok-clause-no_store g c =
-    says_no_store g.D.Disk.tells (g.D.Disk.state c.args.disk.now).present c.run_script-status.result c.end.result
-    c.end.ensures.same
-    (opened_says g.D.Disk.tells (g.D.Disk.state c.args.disk.now).present c.run_script-status.result
-    c.run_script-status.ensures.opened)
+pub returns-in-Ok-clause-no_read_fails : goal.returns-in-Ok-clause-no_read_fails
+returns-in-Ok-clause-no_read_fails g c =
+    reads_whole c.run_script-status.result c.end.result (g.I.Input.fault_count c.args.input.now)
+    (g.I.Input.fault_count c.run_script-status.new.input) c.end.ensures.same c.run_script-status.ensures.reads
 
-pub returns-in-Err-clause-no_store : goal.returns-in-Err-clause-no_store
-returns-in-Err-clause-no_store g c =
-    says_no_store g.D.Disk.tells (g.D.Disk.state c.args.disk.now).present c.unopened.result c.end-in-Err.result
+pub returns-in-Ok-clause-store : goal.returns-in-Ok-clause-store
+returns-in-Ok-clause-store g c =
+    says_store g.D.Disk.tells (g.D.Disk.state c.args.disk.now).present c.run_script-status.result c.end.result
+    c.end.ensures.same
+    (opened_says g.D.Disk.tells (g.D.Disk.state c.args.disk.now).present (g.D.Disk.state c.open.new.disk).present
+    c.in-Ok.engine.chain.records c.run_script-status.result c.in-Ok.ensures.read
+    (opened_is_one c.run_script-status.result c.run_script-status.ensures.opened))
+
+pub returns-in-Err-clause-store : goal.returns-in-Err-clause-store
+returns-in-Err-clause-store g c =
+    says_store g.D.Disk.tells (g.D.Disk.state c.args.disk.now).present c.unopened.result c.end-in-Err.result
     c.end-in-Err.ensures.same
     (unopened_says Unit g.D.Disk.tells (g.D.Disk.state c.args.disk.now).present c.in-Err.error c.unopened.result
     c.unopened.ensures.status c.in-Err.ensures.no_store)

@@ -1,8 +1,7 @@
 use Rattle.std.proofs.Common.{◌≡◌, ℕ, suc, ◌-◌, ◌+◌, refl, ◌∙◌, subst, arith, Some, None, []}
 use Rattle.cdb_front.specs.AnswerMeanings.{meant}
-use Rattle.cdb_front.specs.Stepping.{Partway}
 use Rattle.cdb_model.specs.Stores.{kind_of}
-use Rattle.cdb_front.proofs.Walk.{partway_begins, partway_out, stepped_by}
+use Rattle.cdb_front.proofs.Walk.{Partway, partway_begins, partway_out, stepped_by}
 use Rattle.cdb_front.proofs.steps.make_steps.Goals as goal
 
 pub loop-init : goal.loop-init

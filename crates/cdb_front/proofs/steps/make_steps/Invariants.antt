@@ -2,7 +2,7 @@ use Rattle.std.proofs.Common.{◌≡◌, ◌-◌, ◌≤◌}
 use Rattle.cdb_model.specs.Stores.{Which, kind_of}
 use Rattle.cdb_model.specs.Transitions.{StateIn}
 use Rattle.cdb_model.specs.Images.{Base}
-use Rattle.cdb_front.specs.Stepping.{Partway}
+use Rattle.cdb_front.proofs.Walk.{Partway}
 use Rattle.cdb_front.proofs.steps.make_steps.Given as goal
 
 abbrev pub invariant-loop : goal.invariant-loop

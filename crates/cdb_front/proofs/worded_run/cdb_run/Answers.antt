@@ -1,4 +1,4 @@
-use Rattle.std.proofs.Common.{◌≤◌, arith}
+use Rattle.std.proofs.Common.{◌≤◌, inl, inr, refl, arith}
 use Rattle.cdb_front.specs.RunProgress.{Entry, Holds}
 use Rattle.cdb_front.specs.declared.exit_status.Status.TheVariants.{Memory}
 use Rattle.cdb_front.proofs.Checking.{checks_nothing}
@@ -40,3 +40,11 @@ returns-in-Err-Memory-clause-fills g c = λ options is mode.
     fills_nothing g.D.Disk.tells g.D.Disk.state g.D.Disk.clock g.D.Disk.since c.args.disk.now
     (g.met.D.Disk.only_now c.args.disk.now) options.start options.count (g.O.Output.written c.args.output.now)
     (g.O.Output.written c.end.new.output) c.end.result c.end.ensures.ends
+
+pub returns-in-Err-Memory-clause-refused : goal.returns-in-Err-Memory-clause-refused
+returns-in-Err-Memory-clause-refused g c = λ none.
+    record { disk_is = refl; shelf_is = refl; input_is = refl; says = inr c.end.ensures.ends }
+
+pub returns-in-Err-Usage-clause-refused : goal.returns-in-Err-Usage-clause-refused
+returns-in-Err-Usage-clause-refused g c = λ none.
+    record { disk_is = refl; shelf_is = refl; input_is = refl; says = inl c.end-in-Err-Usage.ensures.ends }

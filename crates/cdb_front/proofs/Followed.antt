@@ -6,15 +6,11 @@ use Rattle.cdb_model.specs.KnownStore.{State, Going}
 use Rattle.cdb_model.specs.Maps.{FileMap}
 use Rattle.cdb_model.specs.Publications.{Publication}
 use Rattle.cdb_model.specs.Stands.{Stands}
-use Rattle.cdb_model.specs.Stores.{Which, kind_of, any_store}
+use Rattle.cdb_model.specs.Stores.{any_store}
 use Rattle.cdb_model.specs.Transitions.{StateIn, IsFreshIn}
 use Rattle.cdb_crash.specs.Crash.{IsWhole, IsEither}
 use Rattle.cdb_files.specs.Disk as disk
 use Rattle.cdb_files.specs.Disk.{IsImage}
-
--- states of a known store, and of any
-abbrev pub Sight : Type 1
-Sight = (w : Which) → StateIn (kind_of w) → Type 0
 
 -- a disk is whole for the list of a state, or, where a publication was given up, each image stands for the list or for
 -- the list followed by that one; where one was given up, none is going
