@@ -15,7 +15,7 @@ use Rattle.cdb_model.specs.Names.{record_path}
 use Rattle.cdb_model.specs.Records.{record_text, heads_text, entries_text}
 use Rattle.cdb_model.specs.Stands.{IsPublication, ArePublications, HasVersion, IsVersionFile, Stands}
 use Rattle.cdb_manifest.specs.Entries.{IsRecord}
-use Rattle.cdb_manifest.specs.Records.{text_of}
+use Rattle.cdb_manifest.specs.Records.{record_bytes}
 use Rattle.cdb_manifest.specs.declared.record_.Record.{Record}
 use Rattle.cdb_manifest.proofs.DecodingLaws.{gives}
 use Rattle.cdb_manifest.proofs.PlaceLaws.{length-heads_text, length-entries_text, no_bad}
@@ -50,11 +50,11 @@ facts_of version sources tiles least most publication touched =
     }
 
 -- records of the same text are one
-one_record : (a b : Record) → text_of a ≡ text_of b → a ≡ b
-one_record a b e = gives (text_of a) (Ok a) refl tt b e
+one_record : (a b : Record) → record_bytes a ≡ record_bytes b → a ≡ b
+one_record a b e = gives (record_bytes a) (Ok a) refl tt b e
 
 -- the text isn't too long
-short_text : (item : Record) → length (text_of item) ≤ 264980
+short_text : (item : Record) → length (record_bytes item) ≤ 264980
 short_text item =
     let hs = item.heads in
     let ts = item.tiles in
@@ -73,7 +73,7 @@ pub record IsRecordAt (present : FileMap) (k : ℕ) (x : List Source) (item : Re
   pub version : item.version ≡ k + 1
   pub heads : item.heads ≡ heads_of x
   pub touched : IsTouched (heads_of x) item.tiles
-  pub there : present (record_path (k + 1)) ≡ Some (text_of item)
+  pub there : present (record_path (k + 1)) ≡ Some (record_bytes item)
 
 publication_at : (P : List (List Source)) (k : ℕ) (x : List Source) → ArePublications P → slice_get P k ≡ Some x
     → IsPublication x
@@ -107,10 +107,10 @@ item_at present P k x stands at = of (split P k x at)
 
 -- the first bad record of a store: there is none
 never_bad : (content : Content) (version place : ℕ) (item : Record) → item.version ≡ version
-    → content ≡ Some (text_of item) → IsBadRecord content version place → ⊥
+    → content ≡ Some (record_bytes item) → IsBadRecord content version place → ⊥
 never_bad content version place item is there bad = of (subst (λ c. IsBadRecord c version place) there bad)
   where
-    of : IsBadRecord (Some (text_of item)) version place → ⊥
+    of : IsBadRecord (Some (record_bytes item)) version place → ⊥
     of (inl long) = omega (arith, long.0, short_text item)
     of (inr (short, inl first)) = no_bad item.version item.heads item.tiles place item.in_range first
     of (inr (short, inr other)) =
@@ -124,8 +124,8 @@ module _ (Tells : Type 0) (told : Tells) (present : FileMap) (P : List (List Sou
     where
       of : (item : Record) × IsRecordAt present k x item → (r.heads ≡ heads_of x) × IsTouched (heads_of x) r.tiles
       of (item, is) =
-          let texts : text_of r ≡ text_of item =
-          some_is (text_of r) (text_of item) (sym (read.told told k r at) ∙ is.there) in
+          let texts : record_bytes r ≡ record_bytes item =
+          some_is (record_bytes r) (record_bytes item) (sym (read.told told k r at) ∙ is.there) in
           let same : r ≡ item = one_record r item texts in (
             ap (λ (q : Record). q.heads) same
                 ∙ is.heads,

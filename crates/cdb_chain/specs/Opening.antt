@@ -4,61 +4,61 @@ use Rattle.std.specs.Prelude.{Ok, Err}
 use Rattle.std.specs.declared.vec.Vec.{Vec}
 use Rattle.cdb_model.specs.Maps.{Content, FileMap}
 use Rattle.cdb_model.specs.Names.{record_path}
-use Rattle.cdb_manifest.specs.Decoding.{FirstBad}
-use Rattle.cdb_manifest.specs.Records.{text_of}
+use Rattle.cdb_manifest.specs.Decoding.{FirstBadField}
+use Rattle.cdb_manifest.specs.Records.{record_bytes}
 use Rattle.cdb_manifest.specs.declared.record_.Record.{Record}
 use Rattle.cdb_chain.specs.Versions.{Versions}
 use Rattle.cdb_chain.specs.declared.open_error.OpenError.{OpenError}
 use Rattle.cdb_chain.specs.declared.open_error.OpenError.TheVariants.{Memory, Fault, NotAStore}
 
 -- the bytes are those of a record of another version
-pub record IsOther (bytes : List ℕ) (version place : ℕ) : Type 0 where
+pub record IsOtherVersion (bytes : List ℕ) (version place : ℕ) : Type 0 where
   pub item : Record
-  pub spelled : bytes ≡ text_of item
+  pub spelled : bytes ≡ record_bytes item
   pub other : item.version ≢ version
   pub place_is : place ≡ 8
 
 -- the bytes aren't those of a version's record, and the first bad one is at the place
 abbrev pub AreUnfit : List ℕ → ℕ → ℕ → Type 0
-AreUnfit bytes version place = FirstBad bytes place ⊎ IsOther bytes version place
+AreUnfit bytes version place = FirstBadField bytes place ⊎ IsOtherVersion bytes version place
 
 -- too long for a record
-abbrev pub IsLong : List ℕ → ℕ → Type 0
-IsLong bytes place = (264980 < length bytes) × (place ≡ 264980)
+abbrev pub IsTooLong : List ℕ → ℕ → Type 0
+IsTooLong bytes place = (264980 < length bytes) × (place ≡ 264980)
 
 -- there is no file, or it is too long
 abbrev pub HasNoSize : Content → ℕ → Type 0
 HasNoSize None place = place ≡ 0
-HasNoSize (Some bytes) place = IsLong bytes place
+HasNoSize (Some bytes) place = IsTooLong bytes place
 
 -- there is no file, or its bytes aren't those of the version's record
 abbrev pub IsBadRecord : Content → ℕ → ℕ → Type 0
 IsBadRecord None version place = place ≡ 0
-IsBadRecord (Some bytes) version place = IsLong bytes place ⊎ ((length bytes ≤ 264980) × AreUnfit bytes version place)
+IsBadRecord (Some bytes) version place = IsTooLong bytes place ⊎ ((length bytes ≤ 264980) × AreUnfit bytes version place)
 
 -- a bad record, of this version, where the disk tells
-abbrev pub Refuses : Type 0 → (ℕ → Type 0) → ℕ → ℕ → ℕ → Type 0
-Refuses Tells Bad version told place = (told ≡ version) × (Tells → Bad place)
+abbrev pub RefusesBytes : Type 0 → (ℕ → Type 0) → ℕ → ℕ → ℕ → Type 0
+RefusesBytes Tells Bad version told place = (told ≡ version) × (Tells → Bad place)
 
 -- the bytes of a file
 abbrev pub AreBytes : {Z : Type 0} → Type 0 → Content → ℕ → Result (Vec ℕ Z) OpenError → Type 0
 AreBytes Tells content version (Ok bytes) = (length bytes.items ≤ 264980) × (Tells → content ≡ Some bytes.items)
-AreBytes Tells content version (Err (NotAStore told place)) = Refuses Tells (HasNoSize content) version told place
+AreBytes Tells content version (Err (NotAStore told place)) = RefusesBytes Tells (HasNoSize content) version told place
 AreBytes Tells content version (Err Memory) = Unit {0}
 AreBytes Tells content version (Err Fault) = Unit {0}
 
 -- the record of bytes
 abbrev pub IsItem : List ℕ → ℕ → Result Record OpenError → Type 0
-IsItem bytes version (Ok item) = (item.version ≡ version) × (bytes ≡ text_of item)
+IsItem bytes version (Ok item) = (item.version ≡ version) × (bytes ≡ record_bytes item)
 IsItem bytes version (Err (NotAStore told place)) = (told ≡ version) × AreUnfit bytes version place
 IsItem bytes version (Err Memory) = Unit {0}
 IsItem bytes version (Err Fault) = ⊥
 
 -- the record of a version
 abbrev pub IsRecordOf : Type 0 → Content → ℕ → Result Record OpenError → Type 0
-IsRecordOf Tells content version (Ok item) = (item.version ≡ version) × (Tells → content ≡ Some (text_of item))
+IsRecordOf Tells content version (Ok item) = (item.version ≡ version) × (Tells → content ≡ Some (record_bytes item))
 IsRecordOf Tells content version (Err (NotAStore told place)) =
-    Refuses Tells (IsBadRecord content version) version told place
+    RefusesBytes Tells (IsBadRecord content version) version told place
 IsRecordOf Tells content version (Err Memory) = Unit {0}
 IsRecordOf Tells content version (Err Fault) = Unit {0}
 
@@ -66,7 +66,7 @@ IsRecordOf Tells content version (Err Fault) = Unit {0}
 pub record AreRead (Tells : Type 0) (present : FileMap) (records : List Record) : Type 0 where
   pub numbered : (k : ℕ) (item : Record) → slice_get records k ≡ Some item → item.version ≡ k + 1
   pub told : Tells → (k : ℕ) (item : Record) → slice_get records k ≡ Some item
-      → present (record_path (k + 1)) ≡ Some (text_of item)
+      → present (record_path (k + 1)) ≡ Some (record_bytes item)
 
 -- the first bad record
 pub record IsFirstBad (Tells : Type 0) (present : FileMap) (newest version place : ℕ) : Type 0 where

@@ -158,7 +158,7 @@ fn look_ups_between_three_versions(rt: HostRuntime) -> Result<(), Fail> {
 }
 
 /// What opening the three versions and a fourth answers, one of them with other bytes.
-fn refused(alloc: Global, version: u32, bytes: &[u8]) -> Result<Option<OpenError>, Fail>
+fn open_answer(alloc: Global, version: u32, bytes: &[u8]) -> Result<Option<OpenError>, Fail>
     requires from_one { 1 ≤ version }
     requires to_last { version ≤ 4096 }
 {
@@ -178,7 +178,7 @@ fn off_the_form(alloc: Global) -> Result<Option<OpenError>, Fail> {
     if bytes.len() < 79 {
         return Err("record".into());
     }
-    refused(alloc, 4, bytes.as_slice().split_at(79).0)
+    open_answer(alloc, 4, bytes.as_slice().split_at(79).0)
 }
 
 /// A record as long as one can be, as the fourth.
@@ -187,13 +187,13 @@ fn longest(alloc: Global) -> Result<Option<OpenError>, Fail> {
     if bytes.len() != 264_980 {
         return Err("record".into());
     }
-    refused(alloc, 4, bytes.as_slice())
+    open_answer(alloc, 4, bytes.as_slice())
 }
 
 /// Longer bytes than a record can have, as the fourth.
 fn too_long(alloc: Global) -> Result<Option<OpenError>, Fail> {
     let bytes = vec![in alloc; 0u8; 264_981]?;
-    refused(alloc, 4, bytes.as_slice())
+    open_answer(alloc, 4, bytes.as_slice())
 }
 
 /// The record of a version with one tile, put as that of another version.
@@ -202,7 +202,7 @@ fn other(alloc: Global, written: u32, version: u32) -> Result<Option<OpenError>,
     requires to_last { version ≤ 4096 }
 {
     let bytes = record(alloc, written, &[(4, -10)])?;
-    refused(alloc, version, bytes.as_slice())
+    open_answer(alloc, version, bytes.as_slice())
 }
 
 /// Opening where the first call of the disk fails.
@@ -220,13 +220,13 @@ fn each_place_of_what_is_no_store(rt: HostRuntime) -> Result<(), Fail> {
     assert_eq!(rt; longest(alloc)?, None);
     assert_eq!(rt; too_long(alloc)?, bad(4, 264_980));
     assert_eq!(rt; off_the_form(alloc)?, bad(4, 64));
-    assert_eq!(rt; refused(alloc, 4, b"")?, bad(4, 0));
+    assert_eq!(rt; open_answer(alloc, 4, b"")?, bad(4, 0));
     assert_eq!(rt; other(alloc, 5, 4)?, bad(4, 8));
     // the fourth is absent
     assert_eq!(rt; other(alloc, 3, 3)?, bad(4, 0));
     // the first bad one
     assert_eq!(rt; other(alloc, 3, 2)?, bad(2, 8));
-    assert_eq!(rt; refused(alloc, 1, b"CDBREC2\n")?, bad(1, 0));
+    assert_eq!(rt; open_answer(alloc, 1, b"CDBREC2\n")?, bad(1, 0));
     assert_eq!(rt; failing(alloc)?, Some(OpenError::Fault));
     Ok(())
 }

@@ -7,7 +7,7 @@ use Rattle.cdb_source.specs.declared.source.Source.{Source}
 use Rattle.cdb_model.specs.Maps.{Text, FileMap}
 use Rattle.cdb_manifest.specs.declared.record_.Record.{Record}
 use Rattle.cdb_check.specs.Expected.{SourceFile, Expected, path_of, source_files_from, source_files_of, Spells, SpellAll, IsAsExpected, AllAsExpected, FirstOther}
-use Rattle.cdb_check.specs.Outcome.{Judges, Finds}
+use Rattle.cdb_check.specs.Outcome.{Judges, FirstDiffering}
 use Rattle.cdb_check.specs.declared.outcome.CheckError.{CheckError}
 use Rattle.cdb_check.specs.declared.outcome.CheckError.TheVariants.{Memory, Fault, Differs}
 
@@ -44,14 +44,14 @@ one_first m (x ∷ xs) p q (inr a) (inr b) = one_first m xs p q a.1 b.1
 -- ---- what calls answer
 
 -- an error among the first is one among all; an answer to the others is one to all
-pub early : (T U : Type 0) (m : FileMap) (xs ys : List Expected) (e : CheckError) → Finds {T = T} m xs (Err e)
-    → Finds {T = U} m (xs ++ ys) (Err e)
+pub early : (T U : Type 0) (m : FileMap) (xs ys : List Expected) (e : CheckError) → FirstDiffering {T = T} m xs (Err e)
+    → FirstDiffering {T = U} m (xs ++ ys) (Err e)
 early T U m xs ys Memory f = tt
 early T U m xs ys Fault f = tt
 early T U m xs ys (Differs told) f = unmet_early m xs ys told.bytes f
 
 pub onward : {T : Type 0} (m : FileMap) (xs ys : List Expected) (r : Result T CheckError) → AllAsExpected m xs
-    → Finds m ys r → Finds m (xs ++ ys) r
+    → FirstDiffering m ys r → FirstDiffering m (xs ++ ys) r
 onward m xs ys (Ok v) a f = met_append m xs ys a f
 onward m xs ys (Err Memory) a f = tt
 onward m xs ys (Err Fault) a f = tt
@@ -81,7 +81,7 @@ unmet_at m (y ∷ ys) (suc k) x q e a b p = inr (a.0, unmet_at m ys k x q e a.1 
 -- an error at a place
 pub stopped_at : (T U : Type 0) (m : FileMap) (xs : List Expected) (k : ℕ) (x : Expected) (q : Text) (e : CheckError)
     → slice_get xs k ≡ Some x → q ≡ path_of x
-    → AllAsExpected m (take k xs) → Judges {T = T} (IsAsExpected m x) q (Err e) → Finds {T = U} m xs (Err e)
+    → AllAsExpected m (take k xs) → Judges {T = T} (IsAsExpected m x) q (Err e) → FirstDiffering {T = U} m xs (Err e)
 stopped_at T U m xs k x q Memory at p a j = tt
 stopped_at T U m xs k x q Fault at p a j = tt
 stopped_at T U m xs k x q (Differs told) at p a j = unmet_at m xs k x told.bytes at a j.0 (j.1 ∙ p)

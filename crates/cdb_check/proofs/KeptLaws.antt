@@ -18,10 +18,10 @@ use Rattle.cdb_model.specs.TileFile.{tile_bytes}
 use Rattle.cdb_model.specs.Publications.{Publication, sources_in, sources_of, heads_of, IsPublication}
 use Rattle.cdb_model.specs.Stands.{IsVersionFile, Stands}
 use Rattle.cdb_model.proofs.OneLists.{one_touched}
-use Rattle.cdb_manifest.specs.Records.{text_of}
+use Rattle.cdb_manifest.specs.Records.{record_bytes}
 use Rattle.cdb_manifest.specs.declared.record_.Record.{Record}
 use Rattle.cdb_check.specs.Expected.{SourceFile, Expected, a_source, a_tile, source_files_from, source_files_of, expected_of, expected_after, SpellAll, MayTouch, AllAsExpected}
-use Rattle.cdb_check.specs.Laws.{HasFiles, AreKept, AreNumbered}
+use Rattle.cdb_check.specs.Laws.{HasVersionFiles, HaveTheirFiles, AreNumbered}
 use Rattle.cdb_check.proofs.ExpectedLaws.{met_append}
 use Rattle.cdb_check.proofs.RecordsOf.{IsOf, AreOf, to_records}
 use Rattle.cdb_check.proofs.SourceLaws.{of_tile}
@@ -145,7 +145,7 @@ version_agrees m earlier x r files of publication tiles touched there spelled = 
     heads : heads_of x ≡ r.heads
     heads = sym of.heads
 
-    as_record : (m (record_path r.version) ≡ Some (text_of r)) × MayTouch r.heads r.tiles
+    as_record : (m (record_path r.version) ≡ Some (record_bytes r)) × MayTouch r.heads r.tiles
     as_record = (
       ap (λ k. m (record_path k)) of.version ∙ there _ _ IsVersionFile.of_record
           ∙ (λ i. Some (record_text (version i) (heads i) (same i))),
@@ -175,7 +175,7 @@ record Given (m : FileMap) (earlier : List Publication) (r : Record) (files : Li
   pub sources : Publication
   pub of : IsOf (length earlier) r sources
   pub publication : IsPublication sources
-  pub has : HasFiles m earlier sources
+  pub has : HasVersionFiles m earlier sources
   pub spelled : SpellAll m (files ++ source_files_of r) (sources_of (earlier ++ sources ∷ []))
 
 version_given : (m : FileMap) (earlier : List Publication) (r : Record) (files : List SourceFile)
@@ -269,14 +269,14 @@ agrees_after m list stands earlier (x ∷ later) is (r ∷ records) files of spe
 
 KeptAfter : FileMap → List Publication → List Publication → Type 0
 KeptAfter m earlier [] = Unit {0}
-KeptAfter m earlier (x ∷ later) = (IsPublication x × HasFiles m earlier x) × KeptAfter m (earlier ++ x ∷ []) later
+KeptAfter m earlier (x ∷ later) = (IsPublication x × HasVersionFiles m earlier x) × KeptAfter m (earlier ++ x ∷ []) later
 
 kept_at : (m : FileMap) (before earlier : List Publication) (x : Publication) (later : List Publication)
-    → KeptAfter m before (earlier ++ x ∷ later) → IsPublication x × HasFiles m (before ++ earlier) x
+    → KeptAfter m before (earlier ++ x ∷ later) → IsPublication x × HasVersionFiles m (before ++ earlier) x
 unfolding KeptAfter
-kept_at m before [] x later a = subst (λ (l : List Publication). IsPublication x × HasFiles m l x)
+kept_at m before [] x later a = subst (λ (l : List Publication). IsPublication x × HasVersionFiles m l x)
     (sym (append-nil before)) a.0
-kept_at m before (z ∷ zs) x later a = subst (λ (l : List Publication). IsPublication x × HasFiles m l x)
+kept_at m before (z ∷ zs) x later a = subst (λ (l : List Publication). IsPublication x × HasVersionFiles m l x)
     (append_assoc before (z ∷ []) zs) (kept_at m (before ++ z ∷ []) zs x later a.1)
 
 record KeptList (m : FileMap) (earlier : List Publication) (records : List Record) : Type 0 where
@@ -306,7 +306,7 @@ kept_after m earlier (r ∷ records) files numbered spelled met =
     }
 
 pub are_kept : (m : FileMap) (records : List Record) → AreNumbered records → AllAsExpected m (expected_after [] records)
-    → AreKept m records
+    → HaveTheirFiles m records
 are_kept m records numbered met =
     let all = kept_after m [] records [] (λ k r at. numbered k r at ∙ (let e : k + 1 ≡ 0 + k + 1 = omega arith in e)) tt
     met in

@@ -11,7 +11,7 @@ use Rattle.cdb_model.specs.Names.{source_path, path}
 use Rattle.cdb_files.specs.Disk.{State}
 use Rattle.cdb_manifest.specs.declared.record_.Record.{Record}
 use Rattle.cdb_check.specs.Expected.{SourceFile, Expected, source_file, source_files_from, source_files_of, a_source, a_tile, expected_of, expected_after, expected_files, Spells, SpellAll, IsAsExpected, AllAsExpected}
-use Rattle.cdb_check.specs.Outcome.{Judges, Finds, GivesFile, IsAt, Looks}
+use Rattle.cdb_check.specs.Outcome.{Judges, FirstDiffering, GivesFile, IsAt, OnlyReads}
 use Rattle.cdb_check.specs.declared.outcome.CheckError.{CheckError}
 use Rattle.cdb_check.specs.declared.outcome.CheckError.TheVariants.{Memory, Fault, Differs}
 use Rattle.cdb_files.specs.Moments.{Rests}
@@ -26,7 +26,7 @@ rests_on a b c r s t x y = record {
 
 pub looks_on : {D : Type 0} (clock : D → ℕ) (since : D → ℕ → FileMap → Type 0) (holds : D → State) (faults : D → ℕ)
     (a b c : D)
-    → Looks clock since holds faults a b → Looks clock since holds faults b c → Looks clock since holds faults a c
+    → OnlyReads clock since holds faults a b → OnlyReads clock since holds faults b c → OnlyReads clock since holds faults a c
 looks_on clock since holds faults a b c x y = record {
   state = y.state ∙ x.state;
   time = rests_on (clock a) (clock b) (clock c) (since a) (since b) (since c) x.time y.time;
@@ -56,7 +56,7 @@ pub tile_stopped : (T U : Type 0) (s now : State) → now ≡ s
     → t ≡ get_or tiles k t
     → AllAsExpected s.present (take k (map (a_tile files version) tiles))
     → Judges {T = T} (IsAsExpected now.present (a_tile files version t)) (path version t) (Err e)
-    → Finds {T = U} s.present (map (a_tile files version) tiles) (Err e)
+    → FirstDiffering {T = U} s.present (map (a_tile files version) tiles) (Err e)
 tile_stopped T U s now same files version tiles k t e lt is met judged =
     stopped_at T U s.present (map (a_tile files version) tiles) k (a_tile files version t) (path version t) e
     (tile_there files version tiles k t lt is) refl met
@@ -103,7 +103,7 @@ pub source_stopped : (U : Type 0) (s now : State) → now ≡ s
     → head ≡ get_or heads k head
     → AllAsExpected s.present (take k (map a_source (source_files_from version 1 heads)))
     → GivesFile now.present (source_file version (k + 1) head) (Err e) → IsAt (source_path version (k + 1)) e
-    → Finds {T = U} s.present (map a_source (source_files_from version 1 heads)) (Err e)
+    → FirstDiffering {T = U} s.present (map a_source (source_files_from version 1 heads)) (Err e)
 source_stopped U s now same version heads k head e lt is met gives at =
     stopped_at U U s.present (map a_source (source_files_from version 1 heads)) k
     (a_source (source_file version (k + 1) head)) (source_path version (k + 1)) e
@@ -197,16 +197,16 @@ cut_at (y ∷ ys) (suc k) x e = ap (λ zs. y ∷ zs) (cut_at ys k x e)
 pub version_stopped : (T U : Type 0) (s now : State) → now ≡ s
     → (records : List Record) (k : ℕ) (r : Record) (e : CheckError) → slice_get records k ≡ Some r
     → AllAsExpected s.present (expected_files (take k records))
-    → Finds {T = T} now.present (expected_of (all_source_files (take k records)) r) (Err e)
-    → Finds {T = U} s.present (expected_files records) (Err e)
+    → FirstDiffering {T = T} now.present (expected_of (all_source_files (take k records)) r) (Err e)
+    → FirstDiffering {T = U} s.present (expected_files records) (Err e)
 version_stopped T U s now same records k r e at met found =
     let rest = drop (suc k) records in
     let files = all_source_files (take k records) in
     let parts : expected_files (take k records) ++ (expected_of files r ++ expected_after (files ++ source_files_of r)
     rest) ≡ expected_files records =
     sym (expected_split [] (take k records) (r ∷ rest)) ∙ ap expected_files (cut_at records k r at) in
-    let here = subst (λ (z : State). Finds {T = T} z.present (expected_of files r) (Err e)) same found in
-    subst (λ (ds : List Expected). Finds {T = U} s.present ds (Err e)) parts
+    let here = subst (λ (z : State). FirstDiffering {T = T} z.present (expected_of files r) (Err e)) same found in
+    subst (λ (ds : List Expected). FirstDiffering {T = U} s.present ds (Err e)) parts
     (onward {T = U} s.present (expected_files (take k records))
     (expected_of files r ++ expected_after (files ++ source_files_of r) rest) (Err e) met
     (early T U s.present (expected_of files r) (expected_after (files ++ source_files_of r) rest) e here))

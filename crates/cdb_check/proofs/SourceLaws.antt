@@ -9,23 +9,23 @@ use Rattle.cdb_model.specs.TileFile.{tile_bytes}
 use Rattle.cdb_source.proofs.DecodingLaws.{gives}
 use Rattle.cdb_source.proofs.TextLaws.{length-front_text, length-posts_text}
 use Rattle.cdb_check.specs.Expected.{SourceFile, a_tile, Spells, SpellAll, IsAsExpected}
-use Rattle.cdb_check.specs.Outcome.{Judges, GivesFile, GivesSource, Unread}
+use Rattle.cdb_check.specs.Outcome.{Judges, GivesFile, DecodesTo, Unread}
 use Rattle.cdb_check.specs.declared.outcome.CheckError.{CheckError}
 use Rattle.cdb_check.specs.declared.outcome.CheckError.TheVariants.{Memory, Fault, Differs}
-use Rattle.cdb_source.specs.Texts.{front_text, posts_text, source_text}
+use Rattle.cdb_source.specs.Texts.{source_front_text, posts_text, source_text}
 use Rattle.cdb_source.specs.declared.head.SourceHead.{SourceHead}
 use Rattle.cdb_source.specs.declared.source.Source.{Source}
 use Rattle.cdb_source.proofs.HeadLaws.{one_head, has_head}
 
-pub one_front : (a b : SourceHead) → front_text a ≡ front_text b → a ≡ b
-one_front a b e = one_head (front_text b) a b (has_head (front_text b) a (sym e)) (has_head (front_text b) b refl)
+pub one_front : (a b : SourceHead) → source_front_text a ≡ source_front_text b → a ≡ b
+one_front a b e = one_head (source_front_text b) a b (has_head (source_front_text b) a (sym e)) (has_head (source_front_text b) b refl)
 
 -- a source file has one source, and its length is told by its head
 pub one_source : (a b : Source) → source_text a ≡ source_text b → a ≡ b
 one_source a b e = sym (gives (source_text a) (Ok b) e tt a refl)
 
 pub text_length : (s : Source) → length (source_text s) ≡ 52 + 2 * (s.head.rows * s.head.cols)
-text_length s = length-append (front_text s.head) (posts_text s.posts)
+text_length s = length-append (source_front_text s.head) (posts_text s.posts)
     ∙ omega (arith, length-front_text s.head, length-posts_text s.posts, s.count)
 
 -- source files spell one list of sources
@@ -74,7 +74,7 @@ tile_judged m files version t ss p file r is made spelled j =
 -- a source that the bytes of a file give, or none
 pub file_gives : (m : FileMap) (file : SourceFile) (bytes : List ℕ) (r : Result Source CheckError)
     → m (source_path file.version file.number) ≡ Some bytes
-    → GivesSource bytes file.head r → GivesFile m file r
+    → DecodesTo bytes file.head r → GivesFile m file r
 file_gives m file bytes (Ok s) there g = record { head = g.1; there = there ∙ ap Some g.0 }
 file_gives m file bytes (Err Memory) there g = tt
 file_gives m file bytes (Err Fault) there g = tt

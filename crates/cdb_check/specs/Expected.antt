@@ -9,7 +9,7 @@ use Rattle.cdb_source.specs.Texts.{source_text}
 use Rattle.cdb_model.specs.Maps.{Text, FileMap}
 use Rattle.cdb_model.specs.Names.{record_path, source_path, path}
 use Rattle.cdb_model.specs.TileFile.{tile_bytes}
-use Rattle.cdb_manifest.specs.Records.{text_of}
+use Rattle.cdb_manifest.specs.Records.{record_bytes}
 use Rattle.cdb_manifest.specs.declared.record_.Record.{Record}
 
 -- a source file that a record names: its version, its number from one on, and its head
@@ -80,7 +80,7 @@ pub record MayTouch (heads : List SourceHead) (tiles : List Tile) : Type 0 where
 -- a file is what it must be: a record has its bytes, and lists the tiles that its heads touch; a source file is that of
 -- a source with the head that the record gives; a tile has the bytes for the sources that the source files spell
 abbrev pub IsAsExpected : FileMap → Expected → Type 0
-IsAsExpected m (a_record r) = (m (record_path r.version) ≡ Some (text_of r)) × MayTouch r.heads r.tiles
+IsAsExpected m (a_record r) = (m (record_path r.version) ≡ Some (record_bytes r)) × MayTouch r.heads r.tiles
 IsAsExpected m (a_source file) = (s : Source) × Spells m file s
 IsAsExpected m (a_tile files version t) =
     (ss : List Source) × SpellAll m files ss × (m (path version t) ≡ Some (tile_bytes ss t))

@@ -5,5 +5,5 @@ use Rattle.cdb_cut.specs.OneTile.{IsFrameOf}
 use Rattle.cdb_check.specs.declared.kept.Kept.{Kept}
 
 -- each kept frame has the numbers of its tile over these sources
-unfoldable pub AreKept : List Source → List Kept → Type 0
-AreKept ss entries = All (λ (k : Kept). IsFrameOf ss k.tile k.frame.items) entries
+unfoldable pub AreKeptFrames : List Source → List Kept → Type 0
+AreKeptFrames ss entries = All (λ (k : Kept). IsFrameOf ss k.tile k.frame.items) entries

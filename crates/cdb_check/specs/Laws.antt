@@ -34,17 +34,17 @@ pub record StoresAgree : Type 0 where
 -- ---- a store that agrees keeps publications
 
 -- a map has the files of the version that comes after earlier ones; it may have others
-pub record HasFiles (m : FileMap) (earlier : List Publication) (x : Publication) : Type 0 where
+pub record HasVersionFiles (m : FileMap) (earlier : List Publication) (x : Publication) : Type 0 where
   pub tiles : List Tile
   pub touched : Touches x tiles
   pub there : (q : Text) (bytes : List ℕ) → IsVersionFile earlier x tiles q bytes → m q ≡ Some bytes
 
 -- records are those of publications whose files are all there
-pub record AreKept (m : FileMap) (records : List Record) : Type 0 where
+pub record HaveTheirFiles (m : FileMap) (records : List Record) : Type 0 where
   pub list : List Publication
   pub are : AreRecords records list
   pub each : (earlier : List Publication) (x : Publication) (later : List Publication)
-      → list ≡ earlier ++ x ∷ later → IsPublication x × HasFiles m earlier x
+      → list ≡ earlier ++ x ∷ later → IsPublication x × HasVersionFiles m earlier x
 
 -- the versions of records go up from 1
 abbrev pub AreNumbered : List Record → Type 0
@@ -53,4 +53,4 @@ AreNumbered records = (k : ℕ) (r : Record) → slice_get records k ≡ Some r 
 -- where all files are as the records of versions from 1 on expect, the records are those of publications that are kept
 abbrev pub AgreeingStoresAreKept : Type 0
 AgreeingStoresAreKept = (m : FileMap) (records : List Record) → AreNumbered records → Agrees m records
-    → AreKept m records
+    → HaveTheirFiles m records

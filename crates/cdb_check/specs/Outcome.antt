@@ -21,11 +21,11 @@ Judges Met q (Err Fault) = Unit {0}
 Judges Met q (Err (Differs path)) = (Met → ⊥) × (path.bytes ≡ q)
 
 -- files were looked at in turn: all are what they must be, or the path of the first that isn't is told
-abbrev pub Finds : {T : Type 0} → FileMap → List Expected → Result T CheckError → Type 0
-Finds m list (Ok _) = AllAsExpected m list
-Finds m list (Err Memory) = Unit {0}
-Finds m list (Err Fault) = Unit {0}
-Finds m list (Err (Differs path)) = FirstOther m list path.bytes
+abbrev pub FirstDiffering : {T : Type 0} → FileMap → List Expected → Result T CheckError → Type 0
+FirstDiffering m list (Ok _) = AllAsExpected m list
+FirstDiffering m list (Err Memory) = Unit {0}
+FirstDiffering m list (Err Fault) = Unit {0}
+FirstDiffering m list (Err (Differs path)) = FirstOther m list path.bytes
 
 -- a source file gave a source, or none that it should give
 abbrev pub GivesFile : FileMap → SourceFile → Result Source CheckError → Type 0
@@ -37,23 +37,23 @@ GivesFile m file (Err (Differs path)) = ((s : Source) → Spells m file s → �
 -- ---- a disk that is only read
 
 -- nothing was written: the disk is as it was, at each moment, and no call was forgotten by its count of faults
-pub record Looks {D : Type 0} (clock : D → ℕ) (since : D → ℕ → FileMap → Type 0) (holds : D → State) (faults : D → ℕ)
+pub record OnlyReads {D : Type 0} (clock : D → ℕ) (since : D → ℕ → FileMap → Type 0) (holds : D → State) (faults : D → ℕ)
     (old new : D) : Type 0 where
   pub state : holds new ≡ holds old
   pub time : Rests (clock old) (clock new) (since old) (since new)
   pub later : faults old ≤ faults new
 
 -- a fault of the disk is told only where its count rose
-abbrev pub IsCaused : {T : Type 0} → ℕ → ℕ → Result T CheckError → Type 0
-IsCaused before now (Err Fault) = Rose before now
-IsCaused before now _ = Unit {0}
+abbrev pub IsFaultCaused : {T : Type 0} → ℕ → ℕ → Result T CheckError → Type 0
+IsFaultCaused before now (Err Fault) = Rose before now
+IsFaultCaused before now _ = Unit {0}
 
 -- bytes give a source with a head, or there is none whose file they are
-abbrev pub GivesSource : List ℕ → SourceHead → Result Source CheckError → Type 0
-GivesSource bytes head (Ok s) = (bytes ≡ source_text s) × (s.head ≡ head)
-GivesSource bytes head (Err Memory) = Unit {0}
-GivesSource bytes head (Err Fault) = Unit {0}
-GivesSource bytes head (Err (Differs path)) = (s : Source) → bytes ≡ source_text s → s.head ≡ head → ⊥
+abbrev pub DecodesTo : List ℕ → SourceHead → Result Source CheckError → Type 0
+DecodesTo bytes head (Ok s) = (bytes ≡ source_text s) × (s.head ≡ head)
+DecodesTo bytes head (Err Memory) = Unit {0}
+DecodesTo bytes head (Err Fault) = Unit {0}
+DecodesTo bytes head (Err (Differs path)) = (s : Source) → bytes ≡ source_text s → s.head ≡ head → ⊥
 
 -- memory ran out, or this path is told
 abbrev pub IsAbout : Text → CheckError → Type 0
@@ -74,6 +74,6 @@ IsAt q Fault = Unit {0}
 IsAt q (Differs path) = path.bytes ≡ q
 
 -- so many versions, and so many files that must be there
-pub record Tells (records : List Record) (agreed : Agreed) : Type 0 where
+pub record TellsCounts (records : List Record) (agreed : Agreed) : Type 0 where
   pub versions : agreed.versions ≡ length records
   pub files : agreed.files ≡ length (expected_files records)

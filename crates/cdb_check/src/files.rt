@@ -7,9 +7,9 @@ ghost use Rattle.cdb_cut.specs.OneTile.{IsFrameOf};
 ghost use Rattle.cdb_tiff_write.specs.Rasters.{tile_size};
 ghost use Rattle.cdb_manifest.specs.Entries.{Ascending};
 ghost use Rattle.cdb_check.specs.Expected.{SourceFile, source_file, a_record, a_tile, IsAsExpected, MayTouch, SpellAll};
-ghost use Rattle.cdb_check.specs.Kept.{AreKept};
-ghost use Rattle.cdb_check.specs.Outcome.{Judges, GivesFile, GivesSource, Looks, IsCaused, IsAbout, IsAt, Unread};
-ghost use Rattle.cdb_check.specs.Rooms.{IsReady};
+ghost use Rattle.cdb_check.specs.Kept.{AreKeptFrames};
+ghost use Rattle.cdb_check.specs.Outcome.{Judges, GivesFile, DecodesTo, OnlyReads, IsFaultCaused, IsAbout, IsAt, Unread};
+ghost use Rattle.cdb_check.specs.Rooms.{IsRoomy};
 ghost use Rattle.cdb_check.specs.declared.outcome.CheckError.TheVariants as CheckError;
 
 use crate::compare::{has_bytes, same_head, same_tiles};
@@ -58,8 +58,8 @@ fn look_at<D: Disk>(
     ensures judged { D.tells → Judges ((D.state disk.old).present path.now.bytes ≡ Some expected.now)
         path.now.bytes result }
     ensures length { length found.new ≡ length found.old }
-    ensures looks { Looks D.clock D.since D.state D.fault_count disk.old disk.new }
-    ensures cause { IsCaused (D.fault_count disk.old) (D.fault_count disk.new) result }
+    ensures looks { OnlyReads D.clock D.since D.state D.fault_count disk.old disk.new }
+    ensures cause { IsFaultCaused (D.fault_count disk.old) (D.fault_count disk.new) result }
 {
     match has_bytes(disk, path, expected, found) {
         Ok(true) => Ok(()),
@@ -75,12 +75,12 @@ pub(crate) fn check_record<D: Disk>(
     room: &mut Room,
     disk: &mut D,
 ) -> Result<(), CheckError>
-    requires ready { IsReady room.old }
+    requires ready { IsRoomy room.old }
     ensures judged { D.tells → Judges (IsAsExpected (D.state disk.old).present (a_record «record».now))
         (names.record_path «record».now.version) result }
-    ensures ready { IsReady room.new }
-    ensures looks { Looks D.clock D.since D.state D.fault_count disk.old disk.new }
-    ensures cause { IsCaused (D.fault_count disk.old) (D.fault_count disk.new) result }
+    ensures ready { IsRoomy room.new }
+    ensures looks { OnlyReads D.clock D.since D.state D.fault_count disk.old disk.new }
+    ensures cause { IsFaultCaused (D.fault_count disk.old) (D.fault_count disk.new) result }
 {
     let path = record_path(record.version);
     let Ok(bytes) = encode(alloc, record) else {
@@ -104,7 +104,7 @@ fn source_of(
     head: &SourceHead,
     path: Path,
 ) -> Result<Source, CheckError>
-    ensures gives { GivesSource bytes.now head.now result }
+    ensures gives { DecodesTo bytes.now head.now result }
     ensures path { IfErr result (IsAbout path.bytes) }
 {
     match decode(alloc, bytes) {
@@ -130,8 +130,8 @@ fn read_sized<D: Disk>(
     ensures read { D.tells → IfOk result (λ bytes. (D.state disk.old).present path.now.bytes ≡ Some bytes.items) }
     ensures unread { D.tells → IfErr result (Unread ((D.state disk.old).present path.now.bytes) size) }
     ensures path { IfErr result (IsAt path.now.bytes) }
-    ensures looks { Looks D.clock D.since D.state D.fault_count disk.old disk.new }
-    ensures cause { IsCaused (D.fault_count disk.old) (D.fault_count disk.new) result }
+    ensures looks { OnlyReads D.clock D.since D.state D.fault_count disk.old disk.new }
+    ensures cause { IsFaultCaused (D.fault_count disk.old) (D.fault_count disk.new) result }
 {
     let Ok(mut bytes) = vec![in alloc; 0; size] else {
         return Err(CheckError::Memory);
@@ -157,8 +157,8 @@ pub(crate) fn check_source<D: Disk>(
     requires number_most { number ≤ 64 }
     ensures gives { D.tells → GivesFile (D.state disk.old).present (source_file version number head.now) result }
     ensures path { IfErr result (IsAt (names.source_path version number)) }
-    ensures looks { Looks D.clock D.since D.state D.fault_count disk.old disk.new }
-    ensures cause { IsCaused (D.fault_count disk.old) (D.fault_count disk.new) result }
+    ensures looks { OnlyReads D.clock D.since D.state D.fault_count disk.old disk.new }
+    ensures cause { IsFaultCaused (D.fault_count disk.old) (D.fault_count disk.new) result }
 {
     let path = source_path(version, number);
     let size = HEAD_BYTES + 2 * (head.rows as usize * head.cols as usize);
@@ -177,7 +177,7 @@ fn make_file(
     frame: &mut [i16],
     bytes: &mut [u8],
 )
-    requires kept { AreKept sources.now kept.now }
+    requires kept { AreKeptFrames sources.now kept.now }
     requires frame { length frame.old ≡ tile_side tile.now * tile_side tile.now }
     requires bytes { length bytes.old ≡ tile_size tile.now }
     ensures made { IsFrameOf sources.now tile.now frame.new }
@@ -203,19 +203,19 @@ fn check_built<D: Disk>(
 ) -> Result<(), CheckError>
     requires version_least { 1 ≤ version }
     requires version_most { version ≤ 4096 }
-    requires kept { AreKept sources.now kept.old.items }
+    requires kept { AreKeptFrames sources.now kept.old.items }
     requires frame { 1048576 ≤ length frame.old }
     requires bytes { 2097338 ≤ length bytes.old }
     requires found { 2097338 ≤ length found.old }
     ensures judged { D.tells → (files : List SourceFile) → SpellAll (D.state disk.old).present files sources.now
         → Judges (IsAsExpected (D.state disk.old).present (a_tile files version tile.now))
         (names.path version tile.now) result }
-    ensures kept { OnOk result (AreKept sources.now kept.new.items) }
+    ensures kept { OnOk result (AreKeptFrames sources.now kept.new.items) }
     ensures frame { length frame.new ≡ length frame.old }
     ensures bytes { length bytes.new ≡ length bytes.old }
     ensures found { length found.new ≡ length found.old }
-    ensures looks { Looks D.clock D.since D.state D.fault_count disk.old disk.new }
-    ensures cause { IsCaused (D.fault_count disk.old) (D.fault_count disk.new) result }
+    ensures looks { OnlyReads D.clock D.since D.state D.fault_count disk.old disk.new }
+    ensures cause { IsFaultCaused (D.fault_count disk.old) (D.fault_count disk.new) result }
 {
     let path = write_path(version, tile);
     let side = side(tile.level) as usize;
@@ -241,15 +241,15 @@ pub(crate) fn check_tile<D: Disk>(
 ) -> Result<(), CheckError>
     requires version_least { 1 ≤ version }
     requires version_most { version ≤ 4096 }
-    requires kept { AreKept sources.now kept.old.items }
-    requires ready { IsReady room.old }
+    requires kept { AreKeptFrames sources.now kept.old.items }
+    requires ready { IsRoomy room.old }
     ensures judged { D.tells → (files : List SourceFile) → SpellAll (D.state disk.old).present files sources.now
         → Judges (IsAsExpected (D.state disk.old).present (a_tile files version tile.now))
         (names.path version tile.now) result }
-    ensures kept { OnOk result (AreKept sources.now kept.new.items) }
-    ensures ready { IsReady room.new }
-    ensures looks { Looks D.clock D.since D.state D.fault_count disk.old disk.new }
-    ensures cause { IsCaused (D.fault_count disk.old) (D.fault_count disk.new) result }
+    ensures kept { OnOk result (AreKeptFrames sources.now kept.new.items) }
+    ensures ready { IsRoomy room.new }
+    ensures looks { OnlyReads D.clock D.since D.state D.fault_count disk.old disk.new }
+    ensures cause { IsFaultCaused (D.fault_count disk.old) (D.fault_count disk.new) result }
 {
     check_built(
         alloc,

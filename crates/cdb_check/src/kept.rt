@@ -41,11 +41,11 @@ fn copy_of(alloc: Global, values: &[i16]) -> Result<Vec<i16>, CheckError>
 }
 
 impl Kept {
-    ghost use Rattle.cdb_check.specs.Kept.{AreKept};
+    ghost use Rattle.cdb_check.specs.Kept.{AreKeptFrames};
 
     /// Copies the values of a tile where it is kept, and says whether it is.
     pub(crate) fn copy(entries: &[Kept], tile: &Tile, frame: &mut [i16]) -> bool
-        ensures { IsTrue result → (ss : List given.Source) → AreKept ss entries.now → IsFrameOf ss tile.now frame.new }
+        ensures { IsTrue result → (ss : List given.Source) → AreKeptFrames ss entries.now → IsFrameOf ss tile.now frame.new }
     {
         for entry in entries {
             let values = entry.frame.as_slice();
@@ -62,7 +62,7 @@ impl Kept {
     /// Lets all go where there are as many as may be.
     #[tactic(auto, using(crate::proofs::KeptTiles::kept_none))]
     fn make_room(entries: &mut Vec<Kept>)
-        ensures { (ss : List given.Source) → AreKept ss entries.old.items → AreKept ss entries.new.items }
+        ensures { (ss : List given.Source) → AreKeptFrames ss entries.old.items → AreKeptFrames ss entries.new.items }
     {
         if entries.len() >= MOST {
             entries.clear();
@@ -71,8 +71,8 @@ impl Kept {
 
     #[tactic(auto, using(crate::proofs::KeptTiles::kept_more))]
     fn add(entries: &mut Vec<Kept>, entry: Kept) -> Result<(), CheckError>
-        ensures { (ss : List given.Source) → AreKept ss entries.old.items
-            → IsFrameOf ss entry.tile entry.frame.items → OnOk result (AreKept ss entries.new.items) }
+        ensures { (ss : List given.Source) → AreKeptFrames ss entries.old.items
+            → IsFrameOf ss entry.tile entry.frame.items → OnOk result (AreKeptFrames ss entries.new.items) }
     {
         match entries.push(entry) {
             Ok(()) => Ok(()),
@@ -87,8 +87,8 @@ impl Kept {
         tile: &Tile,
         values: &[i16],
     ) -> Result<(), CheckError>
-        ensures { (ss : List given.Source) → AreKept ss entries.old.items → IsFrameOf ss tile.now values.now
-            → OnOk result (AreKept ss entries.new.items) }
+        ensures { (ss : List given.Source) → AreKeptFrames ss entries.old.items → IsFrameOf ss tile.now values.now
+            → OnOk result (AreKeptFrames ss entries.new.items) }
     {
         if tile.level.number > FINEST {
             return Ok(());

@@ -7,8 +7,8 @@ ghost use Rattle.cdb_grid.specs.Tiles.{tile_side};
 ghost use Rattle.cdb_grid.specs.declared.tile.Tile as grid;
 ghost use Rattle.cdb_cut.specs.Laws.{IsOwn, IsExtreme};
 ghost use Rattle.cdb_cut.specs.OneTile.{four_rule, IsFrameOf, IsFolded, IsWholeFolded};
-ghost use Rattle.cdb_cut.specs.FinerTiles.{IsPlain, AreChildren, elevation_of};
-ghost use Rattle.cdb_check.specs.Kept.{AreKept};
+ghost use Rattle.cdb_cut.specs.FinerTiles.{IsPlain, AreChildren, elevation_tile};
+ghost use Rattle.cdb_check.specs.Kept.{AreKeptFrames};
 
 use crate::kept::Kept;
 use crate::painting::{clear, paint_sources};
@@ -45,7 +45,7 @@ fn fold(
 
 /// The tile of elevations of the same cells.
 fn elevation_of(tile: &Tile) -> Tile
-    ensures { result ≡ elevation_of tile.now }
+    ensures { result ≡ elevation_tile tile.now }
 {
     Tile {
         family: Family::Elev,
@@ -74,7 +74,7 @@ fn fold_child(
     spare: &mut [i16],
     frame: &mut [i16],
 )
-    requires kept { AreKept sources.now kept.now }
+    requires kept { AreKeptFrames sources.now kept.now }
     requires parent { IsParent child.now tile.now }
     requires spare { 1048576 ≤ length spare.old }
     requires frame { length frame.old ≡ tile_side tile.now * tile_side tile.now }
@@ -103,7 +103,7 @@ fn fold_children(
     spare: &mut [i16],
     frame: &mut [i16],
 )
-    requires kept { AreKept sources.now kept.now }
+    requires kept { AreKeptFrames sources.now kept.now }
     requires finer { AreChildren tile.now finer.now }
     requires spare { 1048576 ≤ length spare.old }
     requires frame { length frame.old ≡ tile_side tile.now * tile_side tile.now }
@@ -118,7 +118,7 @@ fn fold_children(
 /// Makes a tile of elevations or of materials.
 #[cycle(making)]
 fn make_own(sources: &[Source], kept: &[Kept], tile: &Tile, spare: &mut [i16], frame: &mut [i16])
-    requires kept { AreKept sources.now kept.now }
+    requires kept { AreKeptFrames sources.now kept.now }
     requires own { IsOwn tile.now.family }
     requires spare { 1048576 ≤ length spare.old }
     requires frame { length frame.old ≡ tile_side tile.now * tile_side tile.now }
@@ -139,10 +139,10 @@ fn make_elevations(
     spare: &mut [i16],
     frame: &mut [i16],
 )
-    requires kept { AreKept sources.now kept.now }
+    requires kept { AreKeptFrames sources.now kept.now }
     requires spare { 1048576 ≤ length spare.old }
     requires frame { length frame.old ≡ tile_side tile.now * tile_side tile.now }
-    ensures { IsFrameOf sources.now (elevation_of tile.now) frame.new }
+    ensures { IsFrameOf sources.now (elevation_tile tile.now) frame.new }
 {
     let elevations = elevation_of(tile);
     if Kept::copy(kept, &elevations, frame) {
@@ -160,7 +160,7 @@ fn make_extreme(
     spare: &mut [i16],
     frame: &mut [i16],
 )
-    requires kept { AreKept sources.now kept.now }
+    requires kept { AreKeptFrames sources.now kept.now }
     requires extreme { IsExtreme tile.now.family }
     requires spare { 1048576 ≤ length spare.old }
     requires frame { length frame.old ≡ tile_side tile.now * tile_side tile.now }
@@ -183,7 +183,7 @@ pub(crate) fn make_tile(
     spare: &mut [i16],
     frame: &mut [i16],
 )
-    requires kept { AreKept sources.now kept.now }
+    requires kept { AreKeptFrames sources.now kept.now }
     requires frame { length frame.old ≡ tile_side tile.now * tile_side tile.now }
     ensures { IsFrameOf sources.now tile.now frame.new }
 {

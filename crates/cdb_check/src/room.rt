@@ -30,12 +30,12 @@ fn spare_for(alloc: Global, finer: usize) -> Result<Vec<i16>, AllocError>
 
 impl Room {
     ghost use Rattle.std.specs.Prelude.{IfOk};
-    ghost use Rattle.cdb_check.specs.Rooms.{IsReady};
+    ghost use Rattle.cdb_check.specs.Rooms.{IsRoomy};
 
     /// Takes the memory, with room for so many finer tiles.
     pub(crate) fn new(alloc: Global, finer: usize) -> Result<Room, AllocError>
         requires { finer ≤ 27 }
-        ensures { IfOk result IsReady }
+        ensures { IfOk result IsRoomy }
     {
         let frame = vec![in alloc; 0; LARGEST_TILE]?;
         let spare = spare_for(alloc, finer)?;

@@ -1,8 +1,8 @@
 //! All files of a store against what they must be.
 ghost use Rattle.std.specs.Prelude.{◌≡◌, ◌+◌, ◌≤◌, ◌++◌, List, OnOk, IfOk, map, length};
 ghost use Rattle.cdb_check.specs.Expected.{SourceFile, source_files_of, expected_of, expected_files, a_source, a_tile, SpellAll};
-ghost use Rattle.cdb_check.specs.Outcome.{Finds, Looks, IsCaused, Tells};
-ghost use Rattle.cdb_check.specs.Rooms.{IsReady};
+ghost use Rattle.cdb_check.specs.Outcome.{FirstDiffering, OnlyReads, IsFaultCaused, TellsCounts};
+ghost use Rattle.cdb_check.specs.Rooms.{IsRoomy};
 
 use crate::files::{check_record, check_source, check_tile};
 use crate::outcome::{Agreed, CheckError};
@@ -25,13 +25,13 @@ fn check_sources<D: Disk>(
     sources: &mut Vec<Source>,
     disk: &mut D,
 ) -> Result<(), CheckError>
-    ensures finds { D.tells → Finds (D.state disk.old).present (map a_source (source_files_of «record».now)) result }
+    ensures finds { D.tells → FirstDiffering (D.state disk.old).present (map a_source (source_files_of «record».now)) result }
     ensures spelled { D.tells → (earlier : List SourceFile)
         → SpellAll (D.state disk.old).present earlier sources.old.items
         → OnOk result
         (SpellAll (D.state disk.old).present (earlier ++ source_files_of «record».now) sources.new.items) }
-    ensures looks { Looks D.clock D.since D.state D.fault_count disk.old disk.new }
-    ensures cause { IsCaused (D.fault_count disk.old) (D.fault_count disk.new) result }
+    ensures looks { OnlyReads D.clock D.since D.state D.fault_count disk.old disk.new }
+    ensures cause { IsFaultCaused (D.fault_count disk.old) (D.fault_count disk.new) result }
 {
     let heads = record.heads.as_slice();
     for k in 0..heads.len() {
@@ -58,12 +58,12 @@ fn check_tiles<D: Disk>(
 ) -> Result<(), CheckError>
     requires version_least { 1 ≤ version }
     requires version_most { version ≤ 4096 }
-    requires ready { IsReady room.old }
+    requires ready { IsRoomy room.old }
     ensures finds { D.tells → (files : List SourceFile) → SpellAll (D.state disk.old).present files sources.now
-        → Finds (D.state disk.old).present (map (a_tile files version) tiles.now) result }
-    ensures ready { IsReady room.new }
-    ensures looks { Looks D.clock D.since D.state D.fault_count disk.old disk.new }
-    ensures cause { IsCaused (D.fault_count disk.old) (D.fault_count disk.new) result }
+        → FirstDiffering (D.state disk.old).present (map (a_tile files version) tiles.now) result }
+    ensures ready { IsRoomy room.new }
+    ensures looks { OnlyReads D.clock D.since D.state D.fault_count disk.old disk.new }
+    ensures cause { IsFaultCaused (D.fault_count disk.old) (D.fault_count disk.new) result }
 {
     let mut kept = Vec::new(alloc);
     for k in 0..tiles.len() {
@@ -83,17 +83,17 @@ fn check_version<D: Disk>(
     room: &mut Room,
     disk: &mut D,
 ) -> Result<(), CheckError>
-    requires ready { IsReady room.old }
+    requires ready { IsRoomy room.old }
     ensures finds { D.tells → (earlier : List SourceFile)
         → SpellAll (D.state disk.old).present earlier sources.old.items
-        → Finds (D.state disk.old).present (expected_of earlier «record».now) result }
+        → FirstDiffering (D.state disk.old).present (expected_of earlier «record».now) result }
     ensures spelled { D.tells → (earlier : List SourceFile)
         → SpellAll (D.state disk.old).present earlier sources.old.items
         → OnOk result
         (SpellAll (D.state disk.old).present (earlier ++ source_files_of «record».now) sources.new.items) }
-    ensures ready { IsReady room.new }
-    ensures looks { Looks D.clock D.since D.state D.fault_count disk.old disk.new }
-    ensures cause { IsCaused (D.fault_count disk.old) (D.fault_count disk.new) result }
+    ensures ready { IsRoomy room.new }
+    ensures looks { OnlyReads D.clock D.since D.state D.fault_count disk.old disk.new }
+    ensures cause { IsFaultCaused (D.fault_count disk.old) (D.fault_count disk.new) result }
 {
     match check_record(alloc, record, room, disk) {
         Ok(()) => (),
@@ -157,10 +157,10 @@ fn finer_tiles(chain: &Chain) -> usize
 ///
 /// It holds all sources of the store at once.
 pub fn check<D: Disk>(alloc: Global, chain: &Chain, disk: &mut D) -> Result<Agreed, CheckError>
-    ensures finds { D.tells → Finds (D.state disk.old).present (expected_files chain.now.records) result }
-    ensures told { IfOk result (Tells chain.now.records) }
-    ensures looks { Looks D.clock D.since D.state D.fault_count disk.old disk.new }
-    ensures cause { IsCaused (D.fault_count disk.old) (D.fault_count disk.new) result }
+    ensures finds { D.tells → FirstDiffering (D.state disk.old).present (expected_files chain.now.records) result }
+    ensures told { IfOk result (TellsCounts chain.now.records) }
+    ensures looks { OnlyReads D.clock D.since D.state D.fault_count disk.old disk.new }
+    ensures cause { IsFaultCaused (D.fault_count disk.old) (D.fault_count disk.new) result }
 {
     let Ok(mut room) = Room::new(alloc, finer_tiles(chain)) else {
         return Err(CheckError::Memory);

@@ -17,7 +17,7 @@ use Rattle.cdb_grid.specs.declared.fraction.Fraction.{Fraction}
 use Rattle.cdb_model.specs.Text.{Text}
 use Rattle.cdb_model.specs.Words.{digits, signed, is_space}
 use Rattle.cdb_model.specs.Grammar.{fraction, is_slash, each, posts}
-use Rattle.cdb_model.specs.Writing.{fraction_text, HasDigits, IsFraction}
+use Rattle.cdb_model.specs.Writing.{fraction_text, HasDigits, IsWritableFraction}
 use Rattle.cdb_commands.proofs.Digits.{own}
 use Rattle.cdb_commands.proofs.JoinedWords.{both, is_clear}
 
@@ -101,10 +101,10 @@ number_back n (pos d) top bottom no_minus = by (int_eq (pos d) (pos 1)) refl
         whole_back (signed_decimal n) clear ∙ ap (option_map (λ n. record { n = n; d = pos 1 })) (signed_back 18 n (omega arith) top (omega arith)) ∙ ap (λ (d : ℤ). let f : Fraction = record { n = n; d = d } in Some f) (sym one)
     by false e = ratio_back (signed_decimal n) (decimal d) n d clear (signed_back 18 n (omega arith) top (omega arith)) (digits_back 18 d (omega arith) bottom (omega arith))
 
-pub fraction_back : (f : Fraction) → IsFraction f → fraction (fraction_text f) ≡ Some f
+pub fraction_back : (f : Fraction) → IsWritableFraction f → fraction (fraction_text f) ≡ Some f
 fraction_back f is = number_back f.n f.d is.top is.bottom is.no_minus
 
-pub fraction_clear : (f : Fraction) → IsFraction f → is_clear is_space (fraction_text f) ≡ true
+pub fraction_clear : (f : Fraction) → IsWritableFraction f → is_clear is_space (fraction_text f) ≡ true
 fraction_clear f is = by (int_eq f.d (pos 1))
   where
     top : is_clear is_space (signed_decimal f.n) ≡ true

@@ -18,9 +18,9 @@ use Rattle.clap.specs.declared.error.kind.ErrorKind.{ErrorKind}
 use Rattle.clap.specs.declared.error.kind.ErrorKind.TheVariants.{ArgumentConflict, InvalidValue, UnknownArgument}
 use Rattle.clap.specs.declared.parser.matches.ValueSource.TheVariants.{CommandLine}
 use Rattle.cdb_commands.specs.OptionCommand.{options_app}
-use Rattle.cdb_commands.specs.Given.{IsGiven, IsSpelled}
+use Rattle.cdb_commands.specs.Given.{IsGiven, SpellsOptions}
 use Rattle.cdb_commands.specs.declared.given.Given.{Given}
-use Rattle.cdb_commands.specs.OptionWords.{is_word, is_short, name_and_value, spelled, Use, given_text, after_name, after_value, after_word, and_use, is_given, is_name, option_names, uses_of}
+use Rattle.cdb_commands.specs.OptionWords.{is_word, is_short, name_and_value, options_spelled, Use, given_text, after_name, after_value, after_word, and_use, is_given, is_name, option_names, uses_of}
 use Rattle.cdb_commands.proofs.OptionLexer.{word_is}
 use Rattle.cdb_commands.proofs.OptionRules.{rule, rules, shape, by_long, by_id, row, rows_given, used_once}
 

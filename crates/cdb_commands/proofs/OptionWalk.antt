@@ -18,9 +18,9 @@ use Rattle.clap.specs.declared.error.kind.ErrorKind.{ErrorKind}
 use Rattle.clap.specs.declared.error.kind.ErrorKind.TheVariants.{ArgumentConflict, InvalidValue, UnknownArgument}
 use Rattle.clap.specs.declared.parser.matches.ValueSource.TheVariants.{CommandLine}
 use Rattle.cdb_commands.specs.OptionCommand.{options_app}
-use Rattle.cdb_commands.specs.Given.{IsGiven, IsSpelled}
+use Rattle.cdb_commands.specs.Given.{IsGiven, SpellsOptions}
 use Rattle.cdb_commands.specs.declared.given.Given.{Given}
-use Rattle.cdb_commands.specs.OptionWords.{is_word, is_short, name_and_value, spelled, Use, given_text, after_name, after_value, after_word, and_use, is_given, is_name, option_names, uses_of}
+use Rattle.cdb_commands.specs.OptionWords.{is_word, is_short, name_and_value, options_spelled, Use, given_text, after_name, after_value, after_word, and_use, is_given, is_name, option_names, uses_of}
 use Rattle.cdb_commands.proofs.OptionLexer.{no_short}
 use Rattle.cdb_commands.proofs.OptionRules.{rules, shape, app, built_is, row, all_finished, no_defaults_fault}
 use Rattle.cdb_commands.proofs.OptionTurns.{AllWords, IsFault, fault_first, held, Standing, walk_of, Names, uses_from, Turns, use_kinds, no_second, one_more, settle_kinds, settled_is, turns, clear, behind, before}
@@ -179,7 +179,7 @@ all_words_of (word ∷ rest) h =
     let q = both_not (bytes_eq word (45 ∷ 45 ∷ [])) (is_short word) p.0 in
     (record { goes_on = q.0; no_short = no_short word q.1 }, all_words_of rest p.1)
 
-pub spelled_by : (words : List Text) (g : Given) → list_all is_word words ≡ true → IsGiven words g → IsSpelled words g
+pub spelled_by : (words : List Text) (g : Given) → list_all is_word words ≡ true → IsGiven words g → SpellsOptions words g
 spelled_by words g all k =
     let s = spelled_where_taken words (all_words_of words all) k.taken in (
       s.0,
@@ -192,5 +192,5 @@ spelled_by words g all k =
       },
     )
 
-pub none_by : (words : List Text) → list_all is_word words ≡ true → (fault_of options_app words ≡ [] → ⊥) → spelled words ≡ None
+pub none_by : (words : List Text) → list_all is_word words ≡ true → (fault_of options_app words ≡ [] → ⊥) → options_spelled words ≡ None
 none_by words all loud = ap (λ b. cond b (uses_of None [] words) None) all ∙ none_where_refused words (all_words_of words all) loud

@@ -11,9 +11,9 @@ use Rattle.std.proofs.lemmas.List.Elements.{All-nil, All-cons}
 use Rattle.std.proofs.lemmas.Str.Parse.{digits_value_short}
 use Rattle.cdb_grid.specs.declared.fraction.Fraction.{Fraction}
 use Rattle.cdb_model.specs.Text.{Text}
-use Rattle.cdb_model.specs.Words.{words, first_word, field, only_word, digits, signed}
-use Rattle.cdb_model.specs.Grammar.{Head, InlineSource, FileSource, Sentence, inline, source, publish, step, step_all, open_session, close, versions, quit, blank, kind_word, fraction, fraction_of, after_slash, is_slash, is_part, path, file_name, each, posts, head, inline_source, file_source, tile_request, step_word, one_word, sentence, line_of}
-use Rattle.cdb_model.specs.Writing.{HasDigits, IsFraction, IsHead, IsInlineSource, IsFileSource, IsSentence, ReadingHasForm}
+use Rattle.cdb_model.specs.Words.{words, first_word, first_field, only_word, digits, signed}
+use Rattle.cdb_model.specs.Grammar.{Head, InlineSource, FileSource, Sentence, inline, source, publish, step, step_all, open_session, close, versions, quit, blank, kind_word, fraction, fraction_of, after_slash, is_slash, is_part, path_word, file_name, each, posts, head, inline_source, file_source, tile_request, step_word, one_word, sentence, line_of}
+use Rattle.cdb_model.specs.Writing.{HasDigits, IsWritableFraction, IsWritableHead, IsInlineSource, IsFileSource, IsSentence, ReadingHasForm}
 use Rattle.cdb_commands.proofs.Digits.{own}
 use Rattle.cdb_commands.proofs.JoinedWords.{both}
 
@@ -62,20 +62,20 @@ signed_form most (c ∷ w) z e = by (c == 45) e
         let t = map_some (digits most (c ∷ w)) (λ n. pos n) z e in
         subst (HasDigits most) t.2 (digits_form most (c ∷ w) t.0 t.1)
 
-fraction_of_form : (top : Text) (o : Option Text) (f : Fraction) → fraction_of top o ≡ Some f → IsFraction f
+fraction_of_form : (top : Text) (o : Option Text) (f : Fraction) → fraction_of top o ≡ Some f → IsWritableFraction f
 fraction_of_form top None f e =
     let t = map_some (signed 18 top) (λ n. let f : Fraction = record { n = n; d = pos 1 } in f) f e in
-    subst IsFraction t.2 (record { top = signed_form 18 top t.0 t.1; bottom = lit< tt; no_minus = omega (arith, ints) })
+    subst IsWritableFraction t.2 (record { top = signed_form 18 top t.0 t.1; bottom = lit< tt; no_minus = omega (arith, ints) })
 fraction_of_form top (Some bottom) f e =
     let t = then_some (signed 18 top) _ f e in
     let u = then_some (digits 18 bottom) _ f t.2 in
-    subst IsFraction (some_is _ f u.2) (record { top = signed_form 18 top t.0 t.1; bottom = digits_form 18 bottom u.0 u.1; no_minus = omega (arith, ints) })
+    subst IsWritableFraction (some_is _ f u.2) (record { top = signed_form 18 top t.0 t.1; bottom = digits_form 18 bottom u.0 u.1; no_minus = omega (arith, ints) })
 
-pub fraction_form : (w : Text) (f : Fraction) → fraction w ≡ Some f → IsFraction f
+pub fraction_form : (w : Text) (f : Fraction) → fraction w ≡ Some f → IsWritableFraction f
 unfolding fraction
 fraction_form w f e = fraction_of_form (take (position_or_len is_slash w) w) (after_slash w) f e
 
-field_form : {X : Type 0} (read : Text → Option X) (P : X → Type 0) → ((w : Text) (x : X) → read w ≡ Some x → P x) → (ws : List Text) (p : X × List Text) → field read ws ≡ Some p → P p.0
+field_form : {X : Type 0} (read : Text → Option X) (P : X → Type 0) → ((w : Text) (x : X) → read w ≡ Some x → P x) → (ws : List Text) (p : X × List Text) → first_field read ws ≡ Some p → P p.0
 field_form read P form ws p e =
     let t = then_some (first_word ws) _ p e in
     let u = map_some (read t.0.0) _ p t.2 in
@@ -88,24 +88,24 @@ only_form read ws x e = let t = then_some (first_word ws) _ x e in (t.0.0, by (i
     by true e = absurd cc
     by false e = e
 
-head_form : (ws : List Text) (p : Head × List Text) → head ws ≡ Some p → IsHead p.0
+head_form : (ws : List Text) (p : Head × List Text) → head ws ≡ Some p → IsWritableHead p.0
 unfolding head
 head_form ws p e =
-    let kind = then_some (field kind_word ws) _ p e in
-    let level = then_some (field (signed 9) kind.0.1) _ p kind.2 in
-    let lat = then_some (field fraction level.0.1) _ p level.2 in
-    let lon = then_some (field fraction lat.0.1) _ p lat.2 in
-    let dlat = then_some (field fraction lon.0.1) _ p lon.2 in
-    let dlon = then_some (field fraction dlat.0.1) _ p dlat.2 in
-    subst (λ (p : Head × List Text). IsHead p.0) (some_is _ p dlon.2) (record {
+    let kind = then_some (first_field kind_word ws) _ p e in
+    let level = then_some (first_field (signed 9) kind.0.1) _ p kind.2 in
+    let lat = then_some (first_field fraction level.0.1) _ p level.2 in
+    let lon = then_some (first_field fraction lat.0.1) _ p lat.2 in
+    let dlat = then_some (first_field fraction lon.0.1) _ p lon.2 in
+    let dlon = then_some (first_field fraction dlat.0.1) _ p dlat.2 in
+    subst (λ (p : Head × List Text). IsWritableHead p.0) (some_is _ p dlon.2) (record {
       level = field_form (signed 9) (HasDigits 9) (signed_form 9) kind.0.1 level.0 level.1;
-      lat = field_form fraction IsFraction fraction_form level.0.1 lat.0 lat.1;
-      lon = field_form fraction IsFraction fraction_form lat.0.1 lon.0 lon.1;
-      dlat = field_form fraction IsFraction fraction_form lon.0.1 dlat.0 dlat.1;
-      dlon = field_form fraction IsFraction fraction_form dlat.0.1 dlon.0 dlon.1;
+      lat = field_form fraction IsWritableFraction fraction_form level.0.1 lat.0 lat.1;
+      lon = field_form fraction IsWritableFraction fraction_form lat.0.1 lon.0 lon.1;
+      dlat = field_form fraction IsWritableFraction fraction_form lon.0.1 dlat.0 dlat.1;
+      dlon = field_form fraction IsWritableFraction fraction_form dlat.0.1 dlon.0 dlon.1;
     })
 
-count_form : (ws : List Text) (p : ℕ × List Text) → field (digits 9) ws ≡ Some p → p.0 < 10 ^ 9
+count_form : (ws : List Text) (p : ℕ × List Text) → first_field (digits 9) ws ≡ Some p → p.0 < 10 ^ 9
 count_form ws p e = field_form (digits 9) (λ n. n < 10 ^ 9) (digits_form 9) ws p e
 
 each_form : (ws : List Text) (zs : List ℤ) → each (signed 6) ws ≡ Some zs → (length zs ≡ length ws) × All (HasDigits 6) zs
@@ -126,11 +126,11 @@ posts_form ws zs e =
     let v = each_form ws zs t.1 in
     (omega (arith, v.0), omega (arith, v.0), v.1)
 
-path_form : (w p : Text) → path w ≡ Some p → path p ≡ Some p
-unfolding path
+path_form : (w p : Text) → path_word w ≡ Some p → path_word p ≡ Some p
+unfolding path_word
 path_form w p e =
     let t = if_some (nat_le (length w) 128 && list_all is_part (slice_split is_slash w)) w p e in
-    subst (λ (x : Text). path x ≡ Some p) t.1 e
+    subst (λ (x : Text). path_word x ≡ Some p) t.1 e
 
 name_form : (w name : Text) → file_name w ≡ Some name → file_name name ≡ Some name
 unfolding file_name
@@ -142,8 +142,8 @@ inline_form : (ws : List Text) (s : InlineSource) → inline_source ws ≡ Some 
 unfolding inline_source
 inline_form ws s e =
     let h = then_some (head ws) _ s e in
-    let rows = then_some (field (digits 9) h.0.1) _ s h.2 in
-    let cols = then_some (field (digits 9) rows.0.1) _ s rows.2 in
+    let rows = then_some (first_field (digits 9) h.0.1) _ s h.2 in
+    let cols = then_some (first_field (digits 9) rows.0.1) _ s rows.2 in
     let ps = map_some (posts cols.0.1) _ s cols.2 in
     let form = posts_form cols.0.1 ps.0 ps.1 in
     subst IsInlineSource ps.2 (record {
@@ -159,9 +159,9 @@ file_form : (ws : List Text) (s : FileSource) → file_source ws ≡ Some s → 
 unfolding file_source
 file_form ws s e =
     let h = then_some (head ws) _ s e in
-    let novalue = then_some (field (signed 9) h.0.1) _ s h.2 in
-    let p = map_some (only_word path novalue.0.1) _ s novalue.2 in
-    let last = only_form path novalue.0.1 p.0 p.1 in
+    let novalue = then_some (first_field (signed 9) h.0.1) _ s h.2 in
+    let p = map_some (only_word path_word novalue.0.1) _ s novalue.2 in
+    let last = only_form path_word novalue.0.1 p.0 p.1 in
     subst IsFileSource p.2 (record {
       head = head_form ws h.0 h.1;
       novalue = field_form (signed 9) (HasDigits 9) (signed_form 9) h.0.1 novalue.0 novalue.1;
@@ -171,7 +171,7 @@ file_form ws s e =
 tile_form : (ws : List Text) (s : Sentence) → tile_request ws ≡ Some s → IsSentence s
 unfolding tile_request
 tile_form ws s e =
-    let id = then_some (field (digits 9) ws) _ s e in
+    let id = then_some (first_field (digits 9) ws) _ s e in
     let file = map_some (only_word file_name id.0.1) _ s id.2 in
     let last = only_form file_name id.0.1 file.0 file.1 in
     subst IsSentence file.2 (count_form ws id.0 id.1, name_form last.0 file.0 last.1)

@@ -3,7 +3,7 @@ use Rattle.std.proofs.Common.{◌≡◌, [], ◌∷◌, None, Some, codes, refl}
 use Rattle.std.specs.Prelude.{pos, negsuc}
 use Rattle.cdb_source.specs.declared.kind.Kind.TheVariants.{Elevation}
 use Rattle.cdb_model.specs.Words.{digits, signed}
-use Rattle.cdb_model.specs.Grammar.{Sentence, inline, source, publish, step, step_all, tile, blank, line_of, inline_source, file_source, head, fraction, posts, path, file_name, tile_request, one_word, sentence}
+use Rattle.cdb_model.specs.Grammar.{Sentence, inline, source, publish, step, step_all, tile, blank, line_of, inline_source, file_source, head, fraction, posts, path_word, file_name, tile_request, one_word, sentence}
 use Rattle.cdb_model.specs.Text.{Text}
 
 abbrev Says : Text → Sentence → Type 0
@@ -25,7 +25,7 @@ from_file : Says (codes "source elev -9 46 7 1/2 1/2 -32768 a.tif") (source (rec
   novalue = negsuc 32767;
   path = codes "a.tif";
 }))
-unfolding line_of sentence file_source head fraction path signed digits
+unfolding line_of sentence file_source head fraction path_word signed digits
 from_file = refl
 
 publication : Says (codes "publish") publish

@@ -15,11 +15,11 @@ use Rattle.cdb_grid.specs.declared.fraction.Fraction.{Fraction}
 use Rattle.cdb_source.specs.declared.kind.Kind.{Kind}
 use Rattle.cdb_source.specs.declared.kind.Kind.TheVariants.{Elevation, Material}
 use Rattle.cdb_model.specs.Text.{Text}
-use Rattle.cdb_model.specs.Words.{words, first_word, field, only_word, is_space}
+use Rattle.cdb_model.specs.Words.{words, first_word, first_field, only_word, is_space}
 use Rattle.cdb_model.specs.Words as reading
-use Rattle.cdb_model.specs.Grammar.{Head, InlineSource, FileSource, Sentence, inline, source, publish, step, step_all, open_session, close, versions, quit, blank, kind_word, fraction, fraction_of, after_slash, is_slash, path, file_name, each, posts, head, inline_source, file_source, tile_request, step_word, one_word, sentence, line_of, is_part}
+use Rattle.cdb_model.specs.Grammar.{Head, InlineSource, FileSource, Sentence, inline, source, publish, step, step_all, open_session, close, versions, quit, blank, kind_word, fraction, fraction_of, after_slash, is_slash, path_word, file_name, each, posts, head, inline_source, file_source, tile_request, step_word, one_word, sentence, line_of, is_part}
 use Rattle.cdb_model.specs.Writing.{kind_text}
-use Rattle.cdb_commands.specs.Wording.{with_zeros, IsNumber, HasMinus, HasNoMinus, IsSigned, IsWhole, IsRatio, IsDegrees, Said, itself, number, signed, degrees, Says, Say, head_said, all_said, IsWording, ReadingIsWorded}
+use Rattle.cdb_commands.specs.Wording.{with_zeros, IsNumber, HasMinus, HasNoMinus, IsSigned, IsWholeDegrees, IsRatio, IsDegrees, Said, itself, number, signed, degrees, SaysNumbers, Say, head_said, all_said, IsWording, ReadingIsWorded}
 use Rattle.cdb_commands.proofs.Digits.{own, short_value}
 use Rattle.cdb_commands.proofs.JoinedWords.{both}
 use Rattle.cdb_commands.proofs.ReadForms.{some_is, then_some, map_some, then_if, if_some}
@@ -143,7 +143,7 @@ first_of : (ws : List Text) (p : Text × List Text) → first_word ws ≡ Some p
 first_of [] p e = absurd cc
 first_of (w ∷ ws) p e = ap (λ (q : Text × List Text). q.0 ∷ q.1) (some_is (w, ws) p e)
 
-field_worded : {X : Type 0} (read : Text → Option X) (ws : List Text) (p : X × List Text) → field read ws ≡ Some p → (w : Text) × (ws ≡ w ∷ p.1) × (read w ≡ Some p.0)
+field_worded : {X : Type 0} (read : Text → Option X) (ws : List Text) (p : X × List Text) → first_field read ws ≡ Some p → (w : Text) × (ws ≡ w ∷ p.1) × (read w ≡ Some p.0)
 field_worded {X} read ws p e =
     let t = then_some (first_word ws) _ p e in
     let u = map_some (read t.0.0) _ p t.2 in
@@ -173,12 +173,12 @@ pub record HasHead (ws : List Text) (h : Head) (rest : List Text) : Type 0 where
 head_worded : (ws : List Text) (p : Head × List Text) → head ws ≡ Some p → HasHead ws p.0 p.1
 unfolding head
 head_worded ws p e =
-    let kind = then_some (field kind_word ws) _ p e in
-    let level = then_some (field (reading.signed 9) kind.0.1) _ p kind.2 in
-    let lat = then_some (field fraction level.0.1) _ p level.2 in
-    let lon = then_some (field fraction lat.0.1) _ p lat.2 in
-    let dlat = then_some (field fraction lon.0.1) _ p lon.2 in
-    let dlon = then_some (field fraction dlat.0.1) _ p dlat.2 in
+    let kind = then_some (first_field kind_word ws) _ p e in
+    let level = then_some (first_field (reading.signed 9) kind.0.1) _ p kind.2 in
+    let lat = then_some (first_field fraction level.0.1) _ p level.2 in
+    let lon = then_some (first_field fraction lat.0.1) _ p lat.2 in
+    let dlat = then_some (first_field fraction lon.0.1) _ p lon.2 in
+    let dlon = then_some (first_field fraction dlat.0.1) _ p dlat.2 in
     let a = field_worded kind_word ws kind.0 kind.1 in
     let b = field_worded (reading.signed 9) kind.0.1 level.0 level.1 in
     let c = field_worded fraction level.0.1 lat.0 lat.1 in
@@ -210,8 +210,8 @@ posts_worded : (ws : List Text) (zs : List ℤ) → posts ws ≡ Some zs → Say
 unfolding posts
 posts_worded ws zs e = each_worded ws zs (then_if (nat_lt 0 (length ws) && nat_le (length ws) 64) (each (reading.signed 6) ws) zs e).1
 
-path_worded : (w p : Text) → path w ≡ Some p → w ≡ p
-unfolding path
+path_worded : (w p : Text) → path_word w ≡ Some p → w ≡ p
+unfolding path_word
 path_worded w p e = (if_some (nat_le (length w) 128 && list_all is_part (slice_split is_slash w)) w p e).1
 
 file_worded : (w name : Text) → file_name w ≡ Some name → w ≡ name
@@ -228,8 +228,8 @@ inline_worded : (ws : List Text) (s : InlineSource) → inline_source ws ≡ Som
 unfolding inline_source
 inline_worded ws s e =
     let h = then_some (head ws) _ s e in
-    let rows = then_some (field (reading.digits 9) h.0.1) _ s h.2 in
-    let cols = then_some (field (reading.digits 9) rows.0.1) _ s rows.2 in
+    let rows = then_some (first_field (reading.digits 9) h.0.1) _ s h.2 in
+    let cols = then_some (first_field (reading.digits 9) rows.0.1) _ s rows.2 in
     let ps = map_some (posts cols.0.1) _ s cols.2 in
     let a = head_worded ws h.0 h.1 in
     let b = field_worded (reading.digits 9) h.0.1 rows.0 rows.1 in
@@ -246,11 +246,11 @@ source_worded : (ws : List Text) (s : FileSource) → file_source ws ≡ Some s 
 unfolding file_source
 source_worded ws s e =
     let h = then_some (head ws) _ s e in
-    let novalue = then_some (field (reading.signed 9) h.0.1) _ s h.2 in
-    let p = map_some (only_word path novalue.0.1) _ s novalue.2 in
+    let novalue = then_some (first_field (reading.signed 9) h.0.1) _ s h.2 in
+    let p = map_some (only_word path_word novalue.0.1) _ s novalue.2 in
     let a = head_worded ws h.0 h.1 in
     let b = field_worded (reading.signed 9) h.0.1 novalue.0 novalue.1 in
-    let c = only_worded path novalue.0.1 p.0 p.1 in
+    let c = only_worded path_word novalue.0.1 p.0 p.1 in
     let front : ws ≡ a.kind ∷ a.level ∷ a.lat ∷ a.lon ∷ a.dlat ∷ a.dlon ∷ b.0 ∷ c.0 ∷ [] = eight a.front b.1 c.1 in
     let say : AreFor (codes "source" ∷ a.kind ∷ a.level ∷ a.lat ∷ a.lon ∷ a.dlat ∷ a.dlon ∷ b.0 ∷ c.0 ∷ []) (source (record { head = h.0.0; novalue = novalue.0.0; path = p.0 })) =
     (refl, (a.say.0, (a.say.1.0, (a.say.1.1.0, (a.say.1.1.1.0, (a.say.1.1.1.1.0, (a.say.1.1.1.1.1.0, (signed_worded 9 b.0 novalue.0.0 (omega arith) b.2, (path_worded c.0 p.0 c.2, tt))))))))) in
@@ -262,7 +262,7 @@ source_worded ws s e =
 tile_worded : (ws : List Text) (s : Sentence) → tile_request ws ≡ Some s → AreFor (codes "tile" ∷ ws) s
 unfolding tile_request
 tile_worded ws s e =
-    let id = then_some (field (reading.digits 9) ws) _ s e in
+    let id = then_some (first_field (reading.digits 9) ws) _ s e in
     let file = map_some (only_word file_name id.0.1) _ s id.2 in
     let a = field_worded (reading.digits 9) ws id.0 id.1 in
     let b = only_worded file_name id.0.1 file.0 file.1 in

@@ -13,8 +13,8 @@ use Rattle.cdb_grid.specs.declared.fraction.Fraction.{Fraction}
 use Rattle.cdb_model.specs.Text.{Text}
 use Rattle.cdb_model.specs.Words as reading
 use Rattle.cdb_model.specs.Words.{is_space}
-use Rattle.cdb_model.specs.Grammar.{Head, InlineSource, FileSource, Sentence, inline, source, publish, step, step_all, open_session, tile, close, versions, quit, blank, fraction, path, each, posts, head, inline_source, file_source, tile_request, step_word, one_word, sentence, line_of}
-use Rattle.cdb_model.specs.Writing.{kind_text, HasDigits, IsFraction, IsHead, IsInlineSource, IsFileSource, IsSentence}
+use Rattle.cdb_model.specs.Grammar.{Head, InlineSource, FileSource, Sentence, inline, source, publish, step, step_all, open_session, tile, close, versions, quit, blank, fraction, path_word, each, posts, head, inline_source, file_source, tile_request, step_word, one_word, sentence, line_of}
+use Rattle.cdb_model.specs.Writing.{kind_text, HasDigits, IsWritableFraction, IsWritableHead, IsInlineSource, IsFileSource, IsSentence}
 use Rattle.cdb_commands.specs.Wording.{with_zeros, IsNumber, IsSigned, IsDegrees, Said, itself, number, signed, degrees, Say, head_said, all_said, WordingIsRead}
 use Rattle.cdb_commands.proofs.Digits.{own}
 use Rattle.cdb_commands.proofs.JoinedWords.{is_clear, has_no_space}
@@ -89,7 +89,7 @@ within z h = let short : nat_abs z < 10 ^ 18 = h in omega arith
 bottom_within : (f : Fraction) (n : ℕ) → HasDigits 18 f.d → f.d ≡ pos n → n < 2 ^ 64
 bottom_within f n h e = let short : n < 10 ^ 18 = subst (HasDigits 18) e h in omega arith
 
-degrees_read : (w : Text) (f : Fraction) → IsDegrees w f → IsFraction f → fraction w ≡ Some f
+degrees_read : (w : Text) (f : Fraction) → IsDegrees w f → IsWritableFraction f → fraction w ≡ Some f
 degrees_read w f (inl is) form =
     whole_back w (signed_clear 47 18 w f.n (omega arith) refl is.top (within f.n form.top))
     ∙ ap (option_map (λ n. record { n = n; d = pos 1 })) (signed_read 18 w f.n is.top (within f.n form.top))
@@ -100,7 +100,7 @@ degrees_read w f (inr is) form =
     (signed_read 18 is.before f.n is.top (within f.n form.top)) (number_read 18 is.after is.n is.bottom (bottom_within f is.n form.bottom is.value))
     ∙ ap (λ (d : ℤ). let g : Fraction = record { n = f.n; d = d } in Some g) (sym is.value))
 
-degrees_clear : (w : Text) (f : Fraction) → IsDegrees w f → IsFraction f → has_no_space w ≡ true
+degrees_clear : (w : Text) (f : Fraction) → IsDegrees w f → IsWritableFraction f → has_no_space w ≡ true
 degrees_clear w f (inl is) form = signed_clear 32 18 w f.n (omega arith) refl is.top (within f.n form.top)
 degrees_clear w f (inr is) form =
     let top = signed_clear 32 18 is.before f.n (omega arith) refl is.top (within f.n form.top) in
@@ -122,7 +122,7 @@ record HasHead (ws : List Text) (h : Head) (more : List Said) : Type 0 where
   clear : list_all has_no_space ws ≡ list_all has_no_space rest
   say : Say rest more
 
-head_read : (ws : List Text) (h : Head) (more : List Said) → Say ws (head_said h ++ more) → IsHead h → HasHead ws h more
+head_read : (ws : List Text) (h : Head) (more : List Said) → Say ws (head_said h ++ more) → IsWritableHead h → HasHead ws h more
 head_read [] h more say is = absurd say
 head_read (a ∷ []) h more say is = absurd say.1
 head_read (a ∷ b ∷ []) h more say is = absurd say.1.1

@@ -10,8 +10,8 @@ use Rattle.cdb_source.specs.declared.kind.Kind.{Kind}
 use Rattle.cdb_source.specs.declared.kind.Kind.TheVariants.{Elevation, Material}
 use Rattle.cdb_model.specs.Text.{Text}
 use Rattle.cdb_model.specs.Words.{digits, is_space}
-use Rattle.cdb_model.specs.Grammar.{Head, InlineSource, FileSource, Sentence, inline, source, publish, step, step_all, open_session, tile, close, versions, quit, blank, kind_word, path, file_name, head, inline_source, file_source, tile_request, step_word, one_word, sentence, line_of, is_slash, is_part}
-use Rattle.cdb_model.specs.Writing.{kind_text, head_words, IsHead, IsInlineSource, IsFileSource, WritingReadsBack}
+use Rattle.cdb_model.specs.Grammar.{Head, InlineSource, FileSource, Sentence, inline, source, publish, step, step_all, open_session, tile, close, versions, quit, blank, kind_word, path_word, file_name, head, inline_source, file_source, tile_request, step_word, one_word, sentence, line_of, is_slash, is_part}
+use Rattle.cdb_model.specs.Writing.{kind_text, head_words, IsWritableHead, IsInlineSource, IsFileSource, WritingReadsBack}
 use Rattle.cdb_commands.proofs.JoinedWords.{both, has_no_space, joined}
 use Rattle.cdb_commands.proofs.PathLemmas.{is_byte_of_path, path_bytes}
 use Rattle.cdb_commands.proofs.NumbersBack.{all_digits, weaker, digits_back, signed_back, fraction_back, posts_back, decimal_clear, signed_clear, fraction_clear, posts_clear}
@@ -24,13 +24,13 @@ pub kind_clear : (k : Kind) → has_no_space (kind_text k) ≡ true
 kind_clear Elevation = refl
 kind_clear Material = refl
 
-head_back : (h : Head) (rest : List Text) → IsHead h → head (head_words h ++ rest) ≡ Some (h, rest)
+head_back : (h : Head) (rest : List Text) → IsWritableHead h → head (head_words h ++ rest) ≡ Some (h, rest)
 unfolding head
 head_back h rest is =
     let short : nat_abs h.level < 10 ^ 9 = is.level in
     rw (kind_back h.kind, signed_back 9 h.level (omega arith) short (omega arith), fraction_back h.lat is.lat, fraction_back h.lon is.lon, fraction_back h.dlat is.dlat, fraction_back h.dlon is.dlon) refl
 
-head_clear : (h : Head) (rest : List Text) → IsHead h → list_all has_no_space (head_words h ++ rest) ≡ list_all has_no_space rest
+head_clear : (h : Head) (rest : List Text) → IsWritableHead h → list_all has_no_space (head_words h ++ rest) ≡ list_all has_no_space rest
 head_clear h rest is =
     let short : nat_abs h.level < 10 ^ 9 = is.level in
     rw (kind_clear h.kind, signed_clear 32 h.level (omega arith) refl (omega arith), fraction_clear h.lat is.lat, fraction_clear h.lon is.lon, fraction_clear h.dlat is.dlat, fraction_clear h.dlon is.dlon) refl
@@ -59,8 +59,8 @@ some_if : {X : Type 0} (b : Bool) (x y : X) → cond {A = Option X} b (Some x) N
 some_if true x y e = refl
 some_if false x y e = absurd cc
 
-pub path_clear : (p : Text) → path p ≡ Some p → has_no_space p ≡ true
-unfolding path
+pub path_clear : (p : Text) → path_word p ≡ Some p → has_no_space p ≡ true
+unfolding path_word
 path_clear p is =
     let t = both (nat_le (length p) 128) (list_all is_part (slice_split is_slash p)) (some_if (nat_le (length p) 128 && list_all is_part (slice_split is_slash p)) p p is) in
     weaker is_byte_of_path (λ c. not (is_space c)) p no_space (path_bytes p t.1)

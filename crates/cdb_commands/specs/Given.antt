@@ -3,7 +3,7 @@ use Rattle.std.specs.Prelude.{◌≡◌, List, [], option_map, codes, Some}
 use Rattle.clap.specs.Words.{first_of, matches_of, fault_of}
 use Rattle.cdb_model.specs.Text.{Text}
 use Rattle.cdb_commands.specs.OptionCommand.{options_app}
-use Rattle.cdb_commands.specs.OptionWords.{Use, given_text, spelled}
+use Rattle.cdb_commands.specs.OptionWords.{Use, given_text, options_spelled}
 use Rattle.cdb_commands.specs.declared.given.Given.{Given}
 
 pub record IsGiven (words : List Text) (g : Given) : Type 0 where
@@ -14,11 +14,11 @@ pub record IsGiven (words : List Text) (g : Given) : Type 0 where
   pub count : option_map (λ s. s.now) g.count ≡ first_of (codes "count") (matches_of options_app words)
 
 -- the texts of the uses of the four options
-pub record Gives (uses : List Use) (g : Given) : Type 0 where
+pub record GivesOptions (uses : List Use) (g : Given) : Type 0 where
   pub mode : option_map (λ s. s.now) g.mode ≡ given_text (codes "mode") uses
   pub background : option_map (λ s. s.now) g.background ≡ given_text (codes "background") uses
   pub start : option_map (λ s. s.now) g.start ≡ given_text (codes "start") uses
   pub count : option_map (λ s. s.now) g.count ≡ given_text (codes "count") uses
 
-abbrev pub IsSpelled : List Text → Given → Type 0
-IsSpelled words g = (uses : List Use) × (spelled words ≡ Some uses) × Gives uses g
+abbrev pub SpellsOptions : List Text → Given → Type 0
+SpellsOptions words g = (uses : List Use) × (options_spelled words ≡ Some uses) × GivesOptions uses g

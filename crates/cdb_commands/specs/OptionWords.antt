@@ -75,5 +75,5 @@ abbrev pub given_text : Text → List Use → Option Text
 given_text name uses = option_map (λ u. u.1) (find (λ u. bytes_eq u.0 name) uses)
 
 -- the uses that a list of words spells
-abbrev pub spelled : List Text → Option (List Use)
-spelled words = if list_all is_word words then uses_of None [] words else None
+abbrev pub options_spelled : List Text → Option (List Use)
+options_spelled words = if list_all is_word words then uses_of None [] words else None

@@ -38,7 +38,7 @@ abbrev pub IsSigned : ℕ → Text → ℤ → Type 0
 IsSigned most word z = HasNoMinus most word z ⊎ HasMinus most word z
 
 -- a whole number of degrees
-pub record IsWhole (word : Text) (f : Fraction) : Type 0 where
+pub record IsWholeDegrees (word : Text) (f : Fraction) : Type 0 where
   pub top : IsSigned 18 word f.n
   pub bottom : f.d ≡ pos 1
 
@@ -53,7 +53,7 @@ pub record IsRatio (word : Text) (f : Fraction) : Type 0 where
   pub value : f.d ≡ pos n
 
 abbrev pub IsDegrees : Text → Fraction → Type 0
-IsDegrees word f = IsWhole word f ⊎ IsRatio word f
+IsDegrees word f = IsWholeDegrees word f ⊎ IsRatio word f
 
 -- ---- words
 
@@ -64,16 +64,16 @@ pub data Said : Type 0 where
   signed : ℕ → ℤ → Said
   degrees : Fraction → Said
 
-abbrev pub Says : Text → Said → Type 0
-Says word (itself text) = word ≡ text
-Says word (number most n) = IsNumber most word n
-Says word (signed most z) = IsSigned most word z
-Says word (degrees f) = IsDegrees word f
+abbrev pub SaysNumbers : Text → Said → Type 0
+SaysNumbers word (itself text) = word ≡ text
+SaysNumbers word (number most n) = IsNumber most word n
+SaysNumbers word (signed most z) = IsSigned most word z
+SaysNumbers word (degrees f) = IsDegrees word f
 
 -- each of these words says what stands at its place
 abbrev pub Say : List Text → List Said → Type 0
 Say [] [] = Unit {0}
-Say (word ∷ words) (said ∷ more) = Says word said × Say words more
+Say (word ∷ words) (said ∷ more) = SaysNumbers word said × Say words more
 Say _ _ = ⊥
 
 abbrev pub head_said : Head → List Said

@@ -1,5 +1,5 @@
 ghost use Rattle.std.specs.Prelude.{◌≡◌};
-ghost use Rattle.cdb_model.specs.Words.{digits, signed, field};
+ghost use Rattle.cdb_model.specs.Words.{digits, signed, first_field};
 ghost use Rattle.cdb_model.specs.Grammar.{kind_word, fraction};
 ghost use Rattle.cdb_commands.specs.Left.{left, read_before};
 
@@ -23,7 +23,7 @@ fn read_kind(word: &[u8]) -> Option<Kind>
 
 /// What the posts of a source are, by the next word.
 pub fn kind_field(words: Words<'_>) -> Option<(Kind, Words<'_>)>
-    ensures { read_before result ≡ field kind_word (left words.entry) }
+    ensures { read_before result ≡ first_field kind_word (left words.entry) }
 {
     let (word, rest) = words.next()?;
     Some((read_kind(word)?, rest))
@@ -31,7 +31,7 @@ pub fn kind_field(words: Words<'_>) -> Option<(Kind, Words<'_>)>
 
 /// A level or a post that stands for none, by the next word.
 pub fn small_field(words: Words<'_>) -> Option<(i32, Words<'_>)>
-    ensures { read_before result ≡ field (signed 9) (left words.entry) }
+    ensures { read_before result ≡ first_field (signed 9) (left words.entry) }
 {
     let (word, rest) = words.next()?;
     Some((read_small(word, 9)?, rest))
@@ -39,7 +39,7 @@ pub fn small_field(words: Words<'_>) -> Option<(i32, Words<'_>)>
 
 /// A coordinate or a step in degrees, by the next word.
 pub fn fraction_field(words: Words<'_>) -> Option<(Fraction, Words<'_>)>
-    ensures { read_before result ≡ field fraction (left words.entry) }
+    ensures { read_before result ≡ first_field fraction (left words.entry) }
 {
     let (word, rest) = words.next()?;
     Some((read_fraction(word)?, rest))
@@ -47,7 +47,7 @@ pub fn fraction_field(words: Words<'_>) -> Option<(Fraction, Words<'_>)>
 
 /// A count or the number of a session, by the next word.
 pub fn count_field(words: Words<'_>) -> Option<(u32, Words<'_>)>
-    ensures { read_before result ≡ field (digits 9) (left words.entry) }
+    ensures { read_before result ≡ first_field (digits 9) (left words.entry) }
 {
     let (word, rest) = words.next()?;
     Some((read_count(word)?, rest))

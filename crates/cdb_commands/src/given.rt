@@ -3,8 +3,8 @@ ghost use Rattle.std.specs.Prelude.{◌≡◌, ◌≢◌, ◌↔◌, [], None, m
 ghost use Rattle.std.specs.List.{list_all};
 ghost use Rattle.clap.specs.Words.{kind_of, fault_of};
 ghost use Rattle.cdb_commands.specs.OptionCommand.{options_app};
-ghost use Rattle.cdb_commands.specs.Given.{IsGiven, IsSpelled};
-ghost use Rattle.cdb_commands.specs.OptionWords.{is_short, is_word, spelled};
+ghost use Rattle.cdb_commands.specs.Given.{IsGiven, SpellsOptions};
+ghost use Rattle.cdb_commands.specs.OptionWords.{is_short, is_word, options_spelled};
 
 use crate::command::command;
 use crate::words_error::WordsError;
@@ -80,8 +80,8 @@ fn all_words(words: &[&str]) -> bool
 /// What the words give for each option. `Usage` exactly where they aren't uses of options, each
 /// option at most once.
 pub fn read_uses<'a>(alloc: Global, words: &'a [&'a str]) -> Result<Given<'a>, WordsError>
-    ensures ok { IfOk result (IsSpelled (map (λ s. s.now) words.entry.now)) }
-    ensures usage { IfErr result (λ e. e ≡ WordsError.Usage → spelled (map (λ s. s.now) words.entry.now) ≡ None) }
+    ensures ok { IfOk result (SpellsOptions (map (λ s. s.now) words.entry.now)) }
+    ensures usage { IfErr result (λ e. e ≡ WordsError.Usage → options_spelled (map (λ s. s.now) words.entry.now) ≡ None) }
 {
     if !all_words(words) {
         return Err(WordsError::Usage);

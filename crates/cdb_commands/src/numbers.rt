@@ -47,7 +47,7 @@ pub fn as_signed(n: u64) -> i64
     n as i64
 }
 
-fn negated(n: u64) -> i64
+fn negate(n: u64) -> i64
     requires { n < 10 ^ 18 }
     ensures { result ≡ neg_ℤ (pos n) }
 {
@@ -64,7 +64,7 @@ pub fn read_signed(word: &[u8], most: usize) -> Option<i64>
 {
     let (first, rest) = word.split_first()?;
     if *first == b'-' {
-        Some(negated(read_digits(rest, most)?))
+        Some(negate(read_digits(rest, most)?))
     } else {
         Some(as_signed(read_digits(word, most)?))
     }

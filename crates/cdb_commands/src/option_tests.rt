@@ -71,7 +71,7 @@ static WORDS: [(&[&str], &str); 46] = [
 ];
 
 /// What words give, as one line.
-fn told(alloc: Global, words: &[&str]) -> Result<String, AllocError> {
+fn tell(alloc: Global, words: &[&str]) -> Result<String, AllocError> {
     match read_words(alloc, words) {
         Ok(
             Options {
@@ -89,7 +89,7 @@ fn told(alloc: Global, words: &[&str]) -> Result<String, AllocError> {
 #[test]
 fn option_words(rt: HostRuntime) -> Result<(), Fail> {
     for (words, want) in WORDS.iter() {
-        let got = told(rt.alloc(), words)?;
+        let got = tell(rt.alloc(), words)?;
         assert_eq!(rt; got.as_str(), *want);
     }
     Ok(())

@@ -1,6 +1,6 @@
 //! The options of the program, by their words.
 ghost use Rattle.std.specs.Prelude.{◌≡◌, ◌≤◌, None, Some, map, IfOk, IfErr, IfSome, option_map};
-ghost use Rattle.cdb_commands.specs.Options.{chosen, mode_of, number_of, options_of};
+ghost use Rattle.cdb_commands.specs.Options.{chosen, mode_of, option_number, options_of};
 
 use crate::given::{Given, read_uses};
 use crate::numbers::read_digits;
@@ -57,7 +57,7 @@ fn mode_in(text: Option<&str>) -> Option<Mode>
 /// option's own value.
 fn number_in(text: Option<&str>, least: u64, most: u64, default: u64) -> Option<u64>
     requires { default ≤ most }
-    ensures value { result ≡ number_of least most default (option_map (λ s. s.now) text.entry) }
+    ensures value { result ≡ option_number least most default (option_map (λ s. s.now) text.entry) }
     ensures small { IfSome result (λ n. n ≤ most) }
 {
     let Some(text) = text else {
@@ -73,8 +73,8 @@ fn number_in(text: Option<&str>, least: u64, most: u64, default: u64) -> Option<
 
 fn options_in(given: &Given) -> Option<Options>
     ensures { let text = option_map (λ s. s.now) in
-        result ≡ chosen (mode_of (text given.now.mode)) (number_of 0 64 1 (text given.now.background))
-        (number_of 0 4294967295 1 (text given.now.start)) (number_of 1 64 4 (text given.now.count)) }
+        result ≡ chosen (mode_of (text given.now.mode)) (option_number 0 64 1 (text given.now.background))
+        (option_number 0 4294967295 1 (text given.now.start)) (option_number 1 64 4 (text given.now.count)) }
 {
     let mode = mode_in(given.mode)?;
     let background = number_in(given.background, 0, MOST_STEPS, 1)?;

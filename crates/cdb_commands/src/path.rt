@@ -1,7 +1,7 @@
 ghost use Rattle.std.specs.Prelude.{◌≡◌, option_map};
 ghost use Rattle.std.specs.Char.{is_ascii_graphic};
 ghost use Rattle.std.specs.List.{list_all, slice_split};
-ghost use Rattle.cdb_model.specs.Grammar.{path, file_name, is_path_byte, is_part, is_slash};
+ghost use Rattle.cdb_model.specs.Grammar.{path_word, file_name, is_path_byte, is_part, is_slash};
 
 use crate::fraction::cut_at_slash;
 use arrayvec::ArrayString;
@@ -46,9 +46,9 @@ fn all_parts(word: &[u8]) -> bool
 
 /// The path of a file of the shelf: 1 to 128 bytes, in parts of letters, digits, `_`, `-` and `.`
 /// with a slash between each two, of which none is empty, `.` or `..`.
-#[tactic(auto, unfolding(cdb_model::specs::Grammar::path))]
+#[tactic(auto, unfolding(cdb_model::specs::Grammar::path_word))]
 pub fn read_path(word: &[u8]) -> Option<ArrayString<128>>
-    ensures { option_map (λ p. p.bytes) result ≡ path word.now }
+    ensures { option_map (λ p. p.bytes) result ≡ path_word word.now }
 {
     if word.len() > MOST_BYTES || !all_parts(word) {
         return None;

@@ -1,6 +1,6 @@
 ghost use Rattle.std.specs.Prelude.{◌≡◌, option_map};
 ghost use Rattle.cdb_model.specs.Words.{only_word};
-ghost use Rattle.cdb_model.specs.Grammar.{inline_source, file_source, inline_in, file_in, path};
+ghost use Rattle.cdb_model.specs.Grammar.{inline_source, file_source, inline_in, file_in, path_word};
 ghost use Rattle.cdb_commands.specs.Left.{left};
 ghost use Rattle.cdb_commands.specs.Meaning.{head_in};
 
@@ -55,7 +55,7 @@ fn load_of(head: Head, novalue: i32, path: ArrayString<128>) -> LoadWords
 }
 
 fn last_path(words: Words<'_>) -> Option<ArrayString<128>>
-    ensures { option_map (λ p. p.bytes) result ≡ only_word path (left words.entry) }
+    ensures { option_map (λ p. p.bytes) result ≡ only_word path_word (left words.entry) }
 {
     read_path(words.only()?)
 }

@@ -159,7 +159,7 @@ fn said(alloc: Global, line: &[u8]) -> Result<String, AllocError> {
 }
 
 /// A front, and then a text so many times.
-fn repeated(alloc: Global, front: &str, text: &str, count: u32) -> Result<String, AllocError> {
+fn repeat(alloc: Global, front: &str, text: &str, count: u32) -> Result<String, AllocError> {
     let mut line = String::from_str(alloc, front)?;
     for _ in 0..count {
         line.push_str(text)?;
@@ -191,7 +191,7 @@ const LONG_LINES: [(&str, &str, u32, bool); 8] = [
 #[test]
 fn long_words_and_many_posts_have_a_limit(rt: HostRuntime) -> Result<(), Fail> {
     for (front, text, count, is_line) in LONG_LINES.iter() {
-        let line = repeated(rt.alloc(), front, text, *count)?;
+        let line = repeat(rt.alloc(), front, text, *count)?;
         let found = said(rt.alloc(), line.as_bytes())?;
         assert_eq!(rt; found.as_str() != "Err(Syntax)", *is_line);
     }

@@ -8,7 +8,7 @@ use Rattle.cdb_files.specs.Disk.{State, Possible, IsImage, Allows, IsSettledAt, 
 use Rattle.cdb_files.specs.Moments.{IsBetween}
 use Rattle.cdb_files.specs.Whole.{IsImageBut, after_fill}
 use Rattle.cdb_crash.specs.Leftovers.{IsOfVersion}
-use Rattle.cdb_crash.specs.Crash.{SameButHeads, IsClean, IsEither, IsReady, head_filled, head_renamed, head_synced}
+use Rattle.cdb_crash.specs.Crash.{SameButHeads, IsClean, IsEither, IsReadyForHead, head_filled, head_renamed, head_synced}
 use Rattle.cdb_crash.proofs.Facts.{IsLayout}
 use Rattle.cdb_crash.proofs.Paths.{not_head, not_new_head}
 use Rattle.cdb_crash.proofs.Possible.{sync_dir-allowed, sync_dir-kept, sync_dir-present, kept-settled, added-either, added-listed, image_put}
@@ -96,7 +96,7 @@ pub record IsBesideHeads (text : List ℕ) (s : State) (m : FileMap) : Type 0 wh
 
 module _ {X : Type 0} (Stands : FileMap → List X → Type 0) (Complete : List X → X → FileMap → Type 0) (head_text : ℕ → List ℕ) (layout : IsLayout Stands Complete head_text) where
   -- The head as before: the old list.
-  pub beside_old : (P : List X) (x : X) (s : State) → IsImage s s.present → IsReady Stands Complete P x s → (m : FileMap)
+  pub beside_old : (P : List X) (x : X) (s : State) → IsImage s s.present → IsReadyForHead Stands Complete P x s → (m : FileMap)
       → ((q : Text) → q ≢ new_head_path → q ≢ head_path → Allows (s.may q) (m q)) → Allows (s.may head_path) (m head_path) → Stands m P
   beside_old P x s here ready m others head =
       stands_but Stands Complete head_text layout P s new_head_path here ready.room (inl refl) m (λ q ne. of q ne (same_text q head_path))
@@ -127,13 +127,13 @@ module _ {X : Type 0} (Stands : FileMap → List X → Type 0) (Complete : List 
           subst A (sym (put-other m head_path (s.present head_path) q not_old)) (others q ne not_old)
 
   -- The new head in its place: the new list.
-  pub beside_new : (P : List X) (x : X) (s : State) → IsImage s s.present → IsReady Stands Complete P x s → (m : FileMap)
+  pub beside_new : (P : List X) (x : X) (s : State) → IsImage s s.present → IsReadyForHead Stands Complete P x s → (m : FileMap)
       → ((q : Text) → q ≢ new_head_path → q ≢ head_path → Allows (s.may q) (m q)) → m head_path ≡ Some (head_text (length P + 1)) → Stands m (P ++ x ∷ [])
   beside_new P x s here ready m others head =
       layout.next P x (before s m) m (ready.room.stands (before s m) (before-image s m here others))
       (ready.complete (before s m) m (before-image s m here others) (before-same s m)) (before-same s m) head
 
-  pub beside_either : (P : List X) (x : X) (s : State) → IsImage s s.present → IsReady Stands Complete P x s → (m : FileMap)
+  pub beside_either : (P : List X) (x : X) (s : State) → IsImage s s.present → IsReadyForHead Stands Complete P x s → (m : FileMap)
       → IsBesideHeads (head_text (length P + 1)) s m → IsEither Stands P x m
   beside_either P x s here ready m beside = of beside.head
     where
@@ -142,11 +142,11 @@ module _ {X : Type 0} (Stands : FileMap → List X → Type 0) (Complete : List 
       of (inr e) = inr (beside_new P x s here ready m beside.others e)
 
   -- While the new head is written: the old list.
-  pub during_fill : (P : List X) (x : X) (s : State) → IsImage s s.present → IsReady Stands Complete P x s → (m : FileMap) → IsImageBut new_head_path s m → Stands m P
+  pub during_fill : (P : List X) (x : X) (s : State) → IsImage s s.present → IsReadyForHead Stands Complete P x s → (m : FileMap) → IsImageBut new_head_path s m → Stands m P
   during_fill P x s here ready m but = stands_but Stands Complete head_text layout P s new_head_path here ready.room (inl refl) m but
 
   -- Inside the rename: either.
-  pub during_rename : (P : List X) (x : X) (s : State) → IsImage s s.present → IsReady Stands Complete P x s → (m : FileMap)
+  pub during_rename : (P : List X) (x : X) (s : State) → IsImage s s.present → IsReadyForHead Stands Complete P x s → (m : FileMap)
       → IsBetween (head_filled (head_text (length P + 1)) s) (head_renamed (head_text (length P + 1)) s) m → IsEither Stands P x m
   during_rename P x s here ready m between = beside_either P x s here ready m (record { others = λ q a b. others q a b (between q); head = head (between head_path) })
     where
@@ -160,12 +160,12 @@ module _ {X : Type 0} (Stands : FileMap → List X → Type 0) (Complete : List 
       head (inl a) = inl (filled-other (head_text (length P + 1)) s head_path heads_differ (m head_path) a)
       head (inr a) = renamed-head_either (head_text (length P + 1)) s (m head_path) a
 
-  pub after_renamed : (P : List X) (x : X) (s : State) → IsImage s s.present → IsReady Stands Complete P x s → (m : FileMap)
+  pub after_renamed : (P : List X) (x : X) (s : State) → IsImage s s.present → IsReadyForHead Stands Complete P x s → (m : FileMap)
       → IsImage (head_renamed (head_text (length P + 1)) s) m → IsEither Stands P x m
   after_renamed P x s here ready m image = during_rename P x s here ready m (λ q. inr (image q))
 
   -- A rename that failed: either.
-  pub failed_rename : (P : List X) (x : X) (s : State) → IsImage s s.present → IsReady Stands Complete P x s → (new : State)
+  pub failed_rename : (P : List X) (x : X) (s : State) → IsImage s s.present → IsReadyForHead Stands Complete P x s → (new : State)
       → Fails (head_filled (head_text (length P + 1)) s) (head_renamed (head_text (length P + 1)) s) new → (m : FileMap) → IsImage new m → IsEither Stands P x m
   failed_rename P x s here ready new fails m image = during_rename P x s here ready m (λ q. fails.may q (m q) (image q))
 
@@ -182,7 +182,7 @@ module _ {X : Type 0} (Stands : FileMap → List X → Type 0) (Complete : List 
       has v = layout.head P s.present (put s.present head_path v) (stands s.present here)
           (stands _ (image_put s s.present head_path v (λ q ne. here q) (anything v))) ∙ put-same s.present head_path v
 
-  pub synced-head : (P : List X) (x : X) (s : State) → IsImage s s.present → IsReady Stands Complete P x s → (v : Content)
+  pub synced-head : (P : List X) (x : X) (s : State) → IsImage s s.present → IsReadyForHead Stands Complete P x s → (v : Content)
       → Allows ((head_synced (head_text (length P + 1)) s).may head_path) v → v ≡ Some (head_text (length P + 1))
   synced-head P x s here ready v a =
       let text : List ℕ = head_text (length P + 1) in
@@ -194,7 +194,7 @@ module _ {X : Type 0} (Stands : FileMap → List X → Type 0) (Complete : List 
       ∙ renamed-head (head_text (length P + 1)) s
 
   -- After the sync of the root: the new list alone.
-  pub at_end : (P : List X) (x : X) (s : State) → IsImage s s.present → IsReady Stands Complete P x s
+  pub at_end : (P : List X) (x : X) (s : State) → IsImage s s.present → IsReadyForHead Stands Complete P x s
       → IsImage (head_renamed (head_text (length P + 1)) s) (head_renamed (head_text (length P + 1)) s).present
       → (m : FileMap) → IsImage (head_synced (head_text (length P + 1)) s) m → Stands m (P ++ x ∷ [])
   at_end P x s here ready now m image =
@@ -202,7 +202,7 @@ module _ {X : Type 0} (Stands : FileMap → List X → Type 0) (Complete : List 
       (λ q not_new not_old. renamed-other (head_text (length P + 1)) s q not_new not_old (m q) (sync_dir-allowed [] (head_renamed (head_text (length P + 1)) s) now q (m q) (image q)))
       (synced-head P x s here ready (m head_path) (image head_path))
 
-  pub clean_at_end : (P : List X) (x : X) (s : State) → IsImage s s.present → IsReady Stands Complete P x s
+  pub clean_at_end : (P : List X) (x : X) (s : State) → IsImage s s.present → IsReadyForHead Stands Complete P x s
       → IsImage (head_renamed (head_text (length P + 1)) s) (head_renamed (head_text (length P + 1)) s).present
       → IsClean Stands (P ++ x ∷ []) (head_synced (head_text (length P + 1)) s)
   clean_at_end P x s here ready now = record {

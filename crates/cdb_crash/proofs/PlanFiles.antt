@@ -15,7 +15,7 @@ use Rattle.cdb_model.specs.declared.name_error.NameError.{NameError}
 use Rattle.cdb_model.specs.Stands.{IsPublication, ArePublications, IsVersionFile}
 use Rattle.cdb_model.specs.TileFile.{tile_bytes}
 use Rattle.cdb_names.specs.Fields.{lat_folder_at, lon_folder_at, dataset_folder_at, level_folder_at, up_folder_at, across}
-use Rattle.cdb_names.specs.Reading.{Spelled, spelled, name_at, dataset_folder_of}
+use Rattle.cdb_names.specs.Reading.{Spelled, spelled_tile, name_at, dataset_folder_of}
 use Rattle.cdb_names.proofs.NameLaws.{name_again}
 use Rattle.cdb_names.proofs.NameResults.{anywhere}
 use Rattle.cdb_names.proofs.PathFieldLaws.{dataset_folder_again, level_for_folder}
@@ -34,9 +34,9 @@ next read t u x y r s p q e = pair_is x y r s (some_is (x, r) (y, s) (sym p ∙ 
 names_tell : (a b : Tile) → name a ≡ name b → a ≡ b
 unfolding anywhere
 names_tell a b e =
-    let again : name_at None (name a) (name a) ≡ Ok (spelled a) = name_again None tt (name a) (anywhere a) in
-    let other : name_at None (name a) (name a) ≡ Ok (spelled b) = ap (λ (x : Text). name_at None (name a) x) e ∙ name_again None tt (name a) (anywhere b) in
-    let k : ◌≡◌ {A = Result Spelled NameError} (Ok (spelled a)) (Ok (spelled b)) = sym again ∙ other in
+    let again : name_at None (name a) (name a) ≡ Ok (spelled_tile a) = name_again None tt (name a) (anywhere a) in
+    let other : name_at None (name a) (name a) ≡ Ok (spelled_tile b) = ap (λ (x : Text). name_at None (name a) x) e ∙ name_again None tt (name a) (anywhere b) in
+    let k : ◌≡◌ {A = Result Spelled NameError} (Ok (spelled_tile a)) (Ok (spelled_tile b)) = sym again ∙ other in
     same_tile a b cc
 
 -- What is left of a path after so many of its fields.

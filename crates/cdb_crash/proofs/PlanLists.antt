@@ -6,7 +6,7 @@ use Rattle.std.specs.Str.{bytes_eq}
 use Rattle.cdb_model.specs.Maps.{Text, Content, FileMap, IsThere, put, folder_above}
 use Rattle.cdb_model.proofs.MapLaws.{put-same, put-other, same_text, bytes_eq-same, bytes_eq-other}
 use Rattle.cdb_crash.specs.Crash.{with_folder}
-use Rattle.cdb_crash.specs.Plan.{Step, each_once, with_files, with_synced, files_after, synced_after, WritesTo}
+use Rattle.cdb_crash.specs.Plan.{FileAction, each_once, with_files, with_synced, files_after, synced_after, WritesTo}
 
 -- ---- each member of a list
 abbrev pub Each : {A : Type 0} → (A → Type 0) → List A → Type 0
@@ -118,10 +118,10 @@ split_two {A = A} (a ∷ front) back (d ∷ done) y rest e = up (split_two front
     up (inr (more, is, left)) = inr ((more, (λ i. sym (ap head e) i ∷ is i), left))
 
 -- ---- what steps write
-abbrev pub Writes_bytes : Text → List ℕ → Step → Type 0
-Writes_bytes q bytes (Step.write file) = q ≡ file.path → file.bytes ≡ bytes
-Writes_bytes q bytes (Step.sync folder) = Unit {0}
-Writes_bytes q bytes (Step.write_and_sync file) = q ≡ file.path → file.bytes ≡ bytes
+abbrev pub Writes_bytes : Text → List ℕ → FileAction → Type 0
+Writes_bytes q bytes (FileAction.write file) = q ≡ file.path → file.bytes ≡ bytes
+Writes_bytes q bytes (FileAction.sync folder) = Unit {0}
+Writes_bytes q bytes (FileAction.write_and_sync file) = q ≡ file.path → file.bytes ≡ bytes
 
 put-there : (m : FileMap) (p : Text) (bytes : List ℕ) (q : Text) → IsThere (put m p (Some bytes) q) → IsThere (m q) ⊎ (q ≡ p)
 put-there m p bytes q there = of (same_text q p)
@@ -133,9 +133,9 @@ put-there m p bytes q there = of (same_text q p)
 put-at : (m : FileMap) (p : Text) (v : Content) (q : Text) → q ≡ p → put m p v q ≡ v
 put-at m p v q e = ap (λ t. put m p v t) e ∙ put-same m p v
 
-there_from : (m : FileMap) (steps : List Step) (q : Text) → IsThere (fold with_files m steps q) → IsThere (m q) ⊎ Some_of (WritesTo q) steps
+there_from : (m : FileMap) (steps : List FileAction) (q : Text) → IsThere (fold with_files m steps q) → IsThere (m q) ⊎ Some_of (WritesTo q) steps
 there_from m [] q there = inl there
-there_from m (Step.write file ∷ steps) q there = of (there_from (put m file.path (Some file.bytes)) steps q there)
+there_from m (FileAction.write file ∷ steps) q there = of (there_from (put m file.path (Some file.bytes)) steps q there)
   where
     of : IsThere (put m file.path (Some file.bytes) q) ⊎ Some_of (WritesTo q) steps → IsThere (m q) ⊎ ((q ≡ file.path) ⊎ Some_of (WritesTo q) steps)
     of (inr a) = inr (inr a)
@@ -144,12 +144,12 @@ there_from m (Step.write file ∷ steps) q there = of (there_from (put m file.pa
         at : IsThere (m q) ⊎ (q ≡ file.path) → IsThere (m q) ⊎ ((q ≡ file.path) ⊎ Some_of (WritesTo q) steps)
         at (inl k) = inl k
         at (inr e) = inr (inl e)
-there_from m (Step.sync folder ∷ steps) q there = of (there_from m steps q there)
+there_from m (FileAction.sync folder ∷ steps) q there = of (there_from m steps q there)
   where
     of : IsThere (m q) ⊎ Some_of (WritesTo q) steps → IsThere (m q) ⊎ (⊥ ⊎ Some_of (WritesTo q) steps)
     of (inr a) = inr (inr a)
     of (inl h) = inl h
-there_from m (Step.write_and_sync file ∷ steps) q there = of (there_from (put m file.path (Some file.bytes)) steps q there)
+there_from m (FileAction.write_and_sync file ∷ steps) q there = of (there_from (put m file.path (Some file.bytes)) steps q there)
   where
     of : IsThere (put m file.path (Some file.bytes) q) ⊎ Some_of (WritesTo q) steps → IsThere (m q) ⊎ ((q ≡ file.path) ⊎ Some_of (WritesTo q) steps)
     of (inr a) = inr (inr a)
@@ -159,7 +159,7 @@ there_from m (Step.write_and_sync file ∷ steps) q there = of (there_from (put 
         at (inl k) = inl k
         at (inr e) = inr (inl e)
 
-pub there_written : (steps : List Step) (q : Text) → IsThere (files_after steps q) → Some_of (WritesTo q) steps
+pub there_written : (steps : List FileAction) (q : Text) → IsThere (files_after steps q) → Some_of (WritesTo q) steps
 there_written steps q there = of (there_from (λ path. None) steps q there)
   where
     of : ⊥ ⊎ Some_of (WritesTo q) steps → Some_of (WritesTo q) steps
@@ -167,24 +167,24 @@ there_written steps q there = of (there_from (λ path. None) steps q there)
     of (inr a) = a
 
 -- A path at which each step that writes to it writes the same bytes.
-written_from : (m : FileMap) (steps : List Step) (q : Text) (bytes : List ℕ) → Each (Writes_bytes q bytes) steps → (m q ≡ Some bytes) ⊎ Some_of (WritesTo q) steps
+written_from : (m : FileMap) (steps : List FileAction) (q : Text) (bytes : List ℕ) → Each (Writes_bytes q bytes) steps → (m q ≡ Some bytes) ⊎ Some_of (WritesTo q) steps
     → fold with_files m steps q ≡ Some bytes
 written_from m [] q bytes each (inl e) = e
 written_from m [] q bytes each (inr a) = absurd a
-written_from m (Step.write file ∷ steps) q bytes each some = written_from (put m file.path (Some file.bytes)) steps q bytes (each.1) (of some (same_text q file.path))
+written_from m (FileAction.write file ∷ steps) q bytes each some = written_from (put m file.path (Some file.bytes)) steps q bytes (each.1) (of some (same_text q file.path))
   where
     of : (m q ≡ Some bytes) ⊎ ((q ≡ file.path) ⊎ Some_of (WritesTo q) steps) → (q ≡ file.path) ⊎ (q ≢ file.path) → (put m file.path (Some file.bytes) q ≡ Some bytes) ⊎ Some_of (WritesTo q) steps
     of h (inl e) = inl (put-at m file.path (Some file.bytes) q e ∙ ap (λ b. Some b) ((each.0) e))
     of (inl h) (inr ne) = inl (put-other m file.path (Some file.bytes) q ne ∙ h)
     of (inr (inl e)) (inr ne) = absurd (ne e)
     of (inr (inr a)) (inr ne) = inr a
-written_from m (Step.sync folder ∷ steps) q bytes each some = written_from m steps q bytes (each.1) (of some)
+written_from m (FileAction.sync folder ∷ steps) q bytes each some = written_from m steps q bytes (each.1) (of some)
   where
     of : (m q ≡ Some bytes) ⊎ (⊥ ⊎ Some_of (WritesTo q) steps) → (m q ≡ Some bytes) ⊎ Some_of (WritesTo q) steps
     of (inl h) = inl h
     of (inr (inl h)) = absurd h
     of (inr (inr a)) = inr a
-written_from m (Step.write_and_sync file ∷ steps) q bytes each some = written_from (put m file.path (Some file.bytes)) steps q bytes (each.1) (of some (same_text q file.path))
+written_from m (FileAction.write_and_sync file ∷ steps) q bytes each some = written_from (put m file.path (Some file.bytes)) steps q bytes (each.1) (of some (same_text q file.path))
   where
     of : (m q ≡ Some bytes) ⊎ ((q ≡ file.path) ⊎ Some_of (WritesTo q) steps) → (q ≡ file.path) ⊎ (q ≢ file.path) → (put m file.path (Some file.bytes) q ≡ Some bytes) ⊎ Some_of (WritesTo q) steps
     of h (inl e) = inl (put-at m file.path (Some file.bytes) q e ∙ ap (λ b. Some b) ((each.0) e))
@@ -192,54 +192,54 @@ written_from m (Step.write_and_sync file ∷ steps) q bytes each some = written_
     of (inr (inl e)) (inr ne) = absurd (ne e)
     of (inr (inr a)) (inr ne) = inr a
 
-pub written : (steps : List Step) (q : Text) (bytes : List ℕ) → Each (Writes_bytes q bytes) steps → Some_of (WritesTo q) steps → files_after steps q ≡ Some bytes
+pub written : (steps : List FileAction) (q : Text) (bytes : List ℕ) → Each (Writes_bytes q bytes) steps → Some_of (WritesTo q) steps → files_after steps q ≡ Some bytes
 written steps q bytes each some = written_from (λ path. None) steps q bytes each (inr some)
 
 -- ---- what steps sync
-abbrev pub Syncs : Text → Step → Type 0
-Syncs f (Step.write file) = ⊥
-Syncs f (Step.sync folder) = f ≡ folder
-Syncs f (Step.write_and_sync file) = f ≡ folder_above file.path
+abbrev pub Syncs : Text → FileAction → Type 0
+Syncs f (FileAction.write file) = ⊥
+Syncs f (FileAction.sync folder) = f ≡ folder
+Syncs f (FileAction.write_and_sync file) = f ≡ folder_above file.path
 
-abbrev pub Leaves : Text → Step → Type 0
-Leaves f (Step.write file) = Unit {0}
-Leaves f (Step.sync folder) = f ≢ folder
-Leaves f (Step.write_and_sync file) = f ≢ folder_above file.path
+abbrev pub Leaves : Text → FileAction → Type 0
+Leaves f (FileAction.write file) = Unit {0}
+Leaves f (FileAction.sync folder) = f ≢ folder
+Leaves f (FileAction.write_and_sync file) = f ≢ folder_above file.path
 
 neither : (a b : Bool) → a ≡ false → b ≡ false → (a || b) ≡ false
 neither false false e f = refl
 neither false true e f = f
 neither true b e f = absurd (true≢false e)
 
-not_synced_from : (synced : Text → Bool) (steps : List Step) (f : Text) → synced f ≡ false → Each (Leaves f) steps → fold with_synced synced steps f ≡ false
+not_synced_from : (synced : Text → Bool) (steps : List FileAction) (f : Text) → synced f ≡ false → Each (Leaves f) steps → fold with_synced synced steps f ≡ false
 not_synced_from synced [] f none each = none
-not_synced_from synced (Step.write file ∷ steps) f none each = not_synced_from synced steps f none (each.1)
-not_synced_from synced (Step.sync folder ∷ steps) f none each =
+not_synced_from synced (FileAction.write file ∷ steps) f none each = not_synced_from synced steps f none (each.1)
+not_synced_from synced (FileAction.sync folder ∷ steps) f none each =
     not_synced_from (with_folder synced folder) steps f (neither (synced f) (bytes_eq f folder) none (bytes_eq-other f folder (λ e. (each.0) (sym e)))) (each.1)
-not_synced_from synced (Step.write_and_sync file ∷ steps) f none each =
+not_synced_from synced (FileAction.write_and_sync file ∷ steps) f none each =
     not_synced_from (with_folder synced (folder_above file.path)) steps f
     (neither (synced f) (bytes_eq f (folder_above file.path)) none (bytes_eq-other f (folder_above file.path) (λ e. (each.0) (sym e)))) (each.1)
 
-pub not_synced : (steps : List Step) (f : Text) → Each (Leaves f) steps → synced_after steps f ≡ false
+pub not_synced : (steps : List FileAction) (f : Text) → Each (Leaves f) steps → synced_after steps f ≡ false
 not_synced steps f each = not_synced_from (λ folder. false) steps f refl each
 
 same_synced : (synced : Text → Bool) (f folder : Text) → f ≡ folder → with_folder synced folder f ≡ true
 same_synced synced f folder e = or_right (synced f) (bytes_eq f folder) (ap (λ t. bytes_eq t folder) e ∙ bytes_eq-same folder)
 
-synced_from : (synced : Text → Bool) (steps : List Step) (f : Text) → (synced f ≡ true) ⊎ Some_of (Syncs f) steps → fold with_synced synced steps f ≡ true
+synced_from : (synced : Text → Bool) (steps : List FileAction) (f : Text) → (synced f ≡ true) ⊎ Some_of (Syncs f) steps → fold with_synced synced steps f ≡ true
 synced_from synced [] f (inl e) = e
 synced_from synced [] f (inr a) = absurd a
-synced_from synced (Step.write file ∷ steps) f (inl e) = synced_from synced steps f (inl e)
-synced_from synced (Step.write file ∷ steps) f (inr (inl h)) = absurd h
-synced_from synced (Step.write file ∷ steps) f (inr (inr a)) = synced_from synced steps f (inr a)
-synced_from synced (Step.sync folder ∷ steps) f (inl e) = synced_from (with_folder synced folder) steps f (inl (or_left (synced f) (bytes_eq f folder) e))
-synced_from synced (Step.sync folder ∷ steps) f (inr (inl e)) = synced_from (with_folder synced folder) steps f (inl (same_synced synced f folder e))
-synced_from synced (Step.sync folder ∷ steps) f (inr (inr a)) = synced_from (with_folder synced folder) steps f (inr a)
-synced_from synced (Step.write_and_sync file ∷ steps) f (inl e) =
+synced_from synced (FileAction.write file ∷ steps) f (inl e) = synced_from synced steps f (inl e)
+synced_from synced (FileAction.write file ∷ steps) f (inr (inl h)) = absurd h
+synced_from synced (FileAction.write file ∷ steps) f (inr (inr a)) = synced_from synced steps f (inr a)
+synced_from synced (FileAction.sync folder ∷ steps) f (inl e) = synced_from (with_folder synced folder) steps f (inl (or_left (synced f) (bytes_eq f folder) e))
+synced_from synced (FileAction.sync folder ∷ steps) f (inr (inl e)) = synced_from (with_folder synced folder) steps f (inl (same_synced synced f folder e))
+synced_from synced (FileAction.sync folder ∷ steps) f (inr (inr a)) = synced_from (with_folder synced folder) steps f (inr a)
+synced_from synced (FileAction.write_and_sync file ∷ steps) f (inl e) =
     synced_from (with_folder synced (folder_above file.path)) steps f (inl (or_left (synced f) (bytes_eq f (folder_above file.path)) e))
-synced_from synced (Step.write_and_sync file ∷ steps) f (inr (inl e)) =
+synced_from synced (FileAction.write_and_sync file ∷ steps) f (inr (inl e)) =
     synced_from (with_folder synced (folder_above file.path)) steps f (inl (same_synced synced f (folder_above file.path) e))
-synced_from synced (Step.write_and_sync file ∷ steps) f (inr (inr a)) = synced_from (with_folder synced (folder_above file.path)) steps f (inr a)
+synced_from synced (FileAction.write_and_sync file ∷ steps) f (inr (inr a)) = synced_from (with_folder synced (folder_above file.path)) steps f (inr a)
 
-pub are_synced : (steps : List Step) (f : Text) → Some_of (Syncs f) steps → synced_after steps f ≡ true
+pub are_synced : (steps : List FileAction) (f : Text) → Some_of (Syncs f) steps → synced_after steps f ≡ true
 are_synced steps f a = synced_from (λ folder. false) steps f (inr a)

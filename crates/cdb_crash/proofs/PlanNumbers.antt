@@ -8,7 +8,7 @@ use Rattle.cdb_source.specs.declared.source.Source.{Source}
 use Rattle.cdb_model.specs.Publications.{sources_of}
 use Rattle.cdb_model.specs.Maps.{Text}
 use Rattle.cdb_model.specs.Names.{source_path, path}
-use Rattle.cdb_crash.specs.Plan.{File, Step, source_files, tile_file, files_of, record_of, folders_of, steps_of}
+use Rattle.cdb_crash.specs.Plan.{File, FileAction, source_files, tile_file, files_of, record_of, folders_of, steps_of}
 use Rattle.cdb_crash.specs.StepLaws.{Numbers}
 use Rattle.cdb_crash.proofs.PlanLaws.{source_files-count, files-count}
 
@@ -56,25 +56,25 @@ get-source_files v from (t ∷ sources) (suc i) number s is e = get-source_files
 
 module _ (P : List (List Source)) (x : List Source) (tiles : List Tile) where
   pub source_at : (i : ℕ) (s : Source) → slice_get x i ≡ Some s
-      → slice_get (steps_of P x tiles) i ≡ Some (Step.write (record { path = source_path (length P + 1) (i + 1); bytes = source_text s }))
-  source_at i s e = get-left _ _ i _ (get-map Step.write _ i _ (get-left _ _ i _ (get-source_files (length P + 1) 1 x i (i + 1) s (omega arith) e)))
+      → slice_get (steps_of P x tiles) i ≡ Some (FileAction.write (record { path = source_path (length P + 1) (i + 1); bytes = source_text s }))
+  source_at i s e = get-left _ _ i _ (get-map FileAction.write _ i _ (get-left _ _ i _ (get-source_files (length P + 1) 1 x i (i + 1) s (omega arith) e)))
 
   pub tile_at : (i n : ℕ) (t : Tile) → n ≡ length x + i → slice_get tiles i ≡ Some t
-      → slice_get (steps_of P x tiles) n ≡ Some (Step.write (tile_file (length P + 1) (sources_of (P ++ x ∷ [])) t))
-  tile_at i n t is e = get-left _ _ n _ (get-map Step.write _ n _
+      → slice_get (steps_of P x tiles) n ≡ Some (FileAction.write (tile_file (length P + 1) (sources_of (P ++ x ∷ [])) t))
+  tile_at i n t is e = get-left _ _ n _ (get-map FileAction.write _ n _
       (get-right (source_files (length P + 1) 1 x) _ i n _ (omega (arith, is, source_files-count (length P + 1) 1 x))
       (get-map (tile_file (length P + 1) (sources_of (P ++ x ∷ []))) tiles i t e)))
 
   pub folder_at : (i n : ℕ) (folder : Text) → n ≡ length x + length tiles + i → slice_get (folders_of (files_of P x tiles)) i ≡ Some folder
-      → slice_get (steps_of P x tiles) n ≡ Some (Step.sync folder)
-  folder_at i n folder is e = get-right (map Step.write (files_of P x tiles)) _ i n _
-      (omega (arith, is, files-count P x tiles, length-map (files_of P x tiles) Step.write)) (get-left _ _ i _ (get-map Step.sync _ i _ e))
+      → slice_get (steps_of P x tiles) n ≡ Some (FileAction.sync folder)
+  folder_at i n folder is e = get-right (map FileAction.write (files_of P x tiles)) _ i n _
+      (omega (arith, is, files-count P x tiles, length-map (files_of P x tiles) FileAction.write)) (get-left _ _ i _ (get-map FileAction.sync _ i _ e))
 
   pub record_at : (n : ℕ) → n ≡ length x + length tiles + length (folders_of (files_of P x tiles))
-      → slice_get (steps_of P x tiles) n ≡ Some (Step.write_and_sync (record_of P x tiles))
-  record_at n is = get-right (map Step.write (files_of P x tiles)) _ (length (folders_of (files_of P x tiles))) n _
-      (omega (arith, is, files-count P x tiles, length-map (files_of P x tiles) Step.write))
-      (get-right (map Step.sync (folders_of (files_of P x tiles))) _ 0 _ _ (omega (arith, length-map (folders_of (files_of P x tiles)) Step.sync)) refl)
+      → slice_get (steps_of P x tiles) n ≡ Some (FileAction.write_and_sync (record_of P x tiles))
+  record_at n is = get-right (map FileAction.write (files_of P x tiles)) _ (length (folders_of (files_of P x tiles))) n _
+      (omega (arith, is, files-count P x tiles, length-map (files_of P x tiles) FileAction.write))
+      (get-right (map FileAction.sync (folders_of (files_of P x tiles))) _ 0 _ _ (omega (arith, length-map (folders_of (files_of P x tiles)) FileAction.sync)) refl)
 
 pub numbers : (P : List (List Source)) (x : List Source) (tiles : List Tile) → Numbers P x tiles
 numbers P x tiles = record { source_at = source_at P x tiles; tile_at = tile_at P x tiles; folder_at = folder_at P x tiles; record_at = record_at P x tiles }

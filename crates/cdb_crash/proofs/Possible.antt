@@ -5,23 +5,23 @@ use Rattle.std.proofs.lemmas.Bool.{cond-true}
 use Rattle.std.specs.Str.{bytes_eq}
 use Rattle.cdb_model.specs.Maps.{Text, Content, FileMap, IsThere, put, folder_above}
 use Rattle.cdb_model.proofs.MapLaws.{put-same, put-other, same_text}
-use Rattle.cdb_files.specs.Disk.{State, Possible, IsImage, Allows, IsOneOf, kept, added, after_sync_dir}
+use Rattle.cdb_files.specs.Disk.{State, Possible, IsImage, Allows, IsOneOf, after_sync, added, after_sync_dir}
 use Rattle.cdb_files.specs.Moments.{IsBetween}
 use Rattle.cdb_files.specs.Whole.{IsImageBut}
 
 -- ---- a synced folder
-pub kept-allowed : (now : Content) (may : Possible) → Allows may now → (v : Content) → Allows (kept now may) v → Allows may v
+pub kept-allowed : (now : Content) (may : Possible) → Allows may now → (v : Content) → Allows (after_sync now may) v → Allows may v
 kept-allowed now (Some xs) here v (inl e) = let P : Content → Type 0 = Allows (Some xs) in subst P (sym e) here
 kept-allowed now (Some xs) here v (inr e) = absurd e
 kept-allowed None None here v a = tt
 kept-allowed (Some bytes) None here v a = tt
 
-pub kept-settled : (now : Content) (may : Possible) → may ≢ None → (v : Content) → Allows (kept now may) v → v ≡ now
+pub kept-settled : (now : Content) (may : Possible) → may ≢ None → (v : Content) → Allows (after_sync now may) v → v ≡ now
 kept-settled now (Some xs) listed v (inl e) = e
 kept-settled now (Some xs) listed v (inr e) = absurd e
 kept-settled now None listed v a = absurd (listed refl)
 
-pub kept-none : (now : Content) (may : Possible) → now ≡ None → (v : Content) → Allows (kept now may) v → v ≡ None
+pub kept-none : (now : Content) (may : Possible) → now ≡ None → (v : Content) → Allows (after_sync now may) v → v ≡ None
 kept-none now (Some xs) gone v (inl e) = e ∙ gone
 kept-none now (Some xs) gone v (inr e) = absurd e
 kept-none None None gone v (inl e) = e
@@ -32,13 +32,13 @@ pub sync_dir-allowed : (folder : Text) (s : State) → IsImage s s.present → (
 unfolding after_sync_dir
 sync_dir-allowed folder s here q v a = cases (bytes_eq (folder_above q) folder) a
   where
-    cases : (b : Bool) → Allows (if b then kept (s.present q) (s.may q) else s.may q) v → Allows (s.may q) v
+    cases : (b : Bool) → Allows (if b then after_sync (s.present q) (s.may q) else s.may q) v → Allows (s.may q) v
     cases true a = kept-allowed (s.present q) (s.may q) (here q) v a
     cases false a = a
 
-pub sync_dir-kept : (folder : Text) (s : State) (q : Text) → bytes_eq (folder_above q) folder ≡ true → (after_sync_dir folder s).may q ≡ kept (s.present q) (s.may q)
+pub sync_dir-kept : (folder : Text) (s : State) (q : Text) → bytes_eq (folder_above q) folder ≡ true → (after_sync_dir folder s).may q ≡ after_sync (s.present q) (s.may q)
 unfolding after_sync_dir
-sync_dir-kept folder s q e = cond-true (bytes_eq (folder_above q) folder) (kept (s.present q) (s.may q)) (s.may q) e
+sync_dir-kept folder s q e = cond-true (bytes_eq (folder_above q) folder) (after_sync (s.present q) (s.may q)) (s.may q) e
 
 pub sync_dir-present : (folder : Text) (s : State) → (after_sync_dir folder s).present ≡ s.present
 unfolding after_sync_dir

@@ -10,12 +10,12 @@ use Rattle.cdb_model.specs.Publications.{heads_of}
 use Rattle.cdb_model.specs.Maps.{Text, Content, folder_above}
 use Rattle.cdb_model.specs.Records.{head_file_text}
 use Rattle.cdb_model.specs.Stands.{ArePublications, IsPublication, IsEntryCount, Stands}
-use Rattle.cdb_files.specs.Disk.{State, Possible, IsImage, Allows, kept, after_sync_dir}
+use Rattle.cdb_files.specs.Disk.{State, Possible, IsImage, Allows, after_sync, after_sync_dir}
 use Rattle.cdb_files.specs.Whole.{after_write}
 use Rattle.cdb_crash.specs.Leftovers.{HasNext}
-use Rattle.cdb_crash.specs.Crash.{IsClean, IsMid, IsReady, head_renamed, head_synced}
+use Rattle.cdb_crash.specs.Crash.{IsClean, IsMid, IsReadyForHead, head_renamed, head_synced}
 use Rattle.cdb_crash.specs.Laws.{PlanKeeps, Publishes, EveryList, empty_disk}
-use Rattle.cdb_crash.specs.Plan.{Step, steps_of, after_step, after_steps, files_after, synced_after, IsMidAfter}
+use Rattle.cdb_crash.specs.Plan.{FileAction, steps_of, after_step, after_steps, files_after, synced_after, IsMidAfter}
 use Rattle.cdb_crash.proofs.CallLaws.{write-here}
 use Rattle.cdb_crash.proofs.HeadLaws.{renamed-here, head_step}
 use Rattle.cdb_crash.proofs.EmptyLaws.{empty_store}
@@ -23,7 +23,7 @@ use Rattle.cdb_crash.proofs.PlanLaws.{lead, plan_keeps}
 use Rattle.cdb_crash.proofs.StoreLaws.{store_layout}
 
 -- ---- what is there after a step is possible
-kept-here : (now : Content) (may : Possible) → Allows may now → Allows (kept now may) now
+kept-here : (now : Content) (may : Possible) → Allows may now → Allows (after_sync now may) now
 kept-here now (Some xs) here = inl refl
 kept-here None None here = inl refl
 kept-here (Some bytes) None here = tt
@@ -32,33 +32,33 @@ pub sync_dir-here : (folder : Text) (s : State) → IsImage s s.present → IsIm
 unfolding after_sync_dir
 sync_dir-here folder s here q = cases (bytes_eq (folder_above q) folder)
   where
-    cases : (b : Bool) → Allows (if b then kept (s.present q) (s.may q) else s.may q) (s.present q)
+    cases : (b : Bool) → Allows (if b then after_sync (s.present q) (s.may q) else s.may q) (s.present q)
     cases true = kept-here (s.present q) (s.may q) (here q)
     cases false = here q
 
-pub step-here : (step : Step) (s : State) → IsImage s s.present → IsImage (after_step step s) (after_step step s).present
-step-here (Step.write file) s here = write-here (folder_above file.path) file.path file.bytes s here
-step-here (Step.sync folder) s here = sync_dir-here folder s here
-step-here (Step.write_and_sync file) s here =
+pub step-here : (step : FileAction) (s : State) → IsImage s s.present → IsImage (after_step step s) (after_step step s).present
+step-here (FileAction.write file) s here = write-here (folder_above file.path) file.path file.bytes s here
+step-here (FileAction.sync folder) s here = sync_dir-here folder s here
+step-here (FileAction.write_and_sync file) s here =
     sync_dir-here (folder_above file.path) (after_write (folder_above file.path) file.path file.bytes s) (write-here (folder_above file.path) file.path file.bytes s here)
 
-pub steps-here : (steps : List Step) (s : State) → IsImage s s.present → IsImage (after_steps steps s) (after_steps steps s).present
+pub steps-here : (steps : List FileAction) (s : State) → IsImage s s.present → IsImage (after_steps steps s) (after_steps steps s).present
 steps-here [] s here = here
 steps-here (step ∷ steps) s here = steps-here steps (after_step step s) (step-here step s here)
 
 -- ---- all steps in a row
 module _ (P : List (List Source)) (x : List Source) (tiles : List Tile) (list : ArePublications (P ++ x ∷ [])) (touched : IsTouched (heads_of x) tiles) where
-  run : (done rest : List Step) (s : State) → steps_of P x tiles ≡ done ++ rest → IsImage s s.present → IsMid Stands P (files_after done) (synced_after done) s
+  run : (done rest : List FileAction) (s : State) → steps_of P x tiles ≡ done ++ rest → IsImage s s.present → IsMid Stands P (files_after done) (synced_after done) s
       → IsMid Stands P (files_after (steps_of P x tiles)) (synced_after (steps_of P x tiles)) (after_steps rest s)
-  run done [] s e here mid = let D : List Step → Type 0 = λ ds. IsMid Stands P (files_after ds) (synced_after ds) s in subst D (sym (e ∙ append_nil done)) mid
+  run done [] s e here mid = let D : List FileAction → Type 0 = λ ds. IsMid Stands P (files_after ds) (synced_after ds) s in subst D (sym (e ∙ append_nil done)) mid
     where
-      append_nil : (steps : List Step) → steps ++ [] ≡ steps
+      append_nil : (steps : List FileAction) → steps ++ [] ≡ steps
       append_nil [] = refl
       append_nil (step ∷ steps) = ap (λ t. step ∷ t) (append_nil steps)
   run done (step ∷ rest) s e here mid =
       run (done ++ step ∷ []) rest (after_step step s) (e ∙ sym (append_assoc done (step ∷ []) rest)) (step-here step s here) (lead P x tiles list touched done step rest s e here mid)
 
-  all_steps : (s : State) → IsImage s s.present → IsClean Stands P s → IsReady Stands HasNext P x (after_steps (steps_of P x tiles) s)
+  all_steps : (s : State) → IsImage s s.present → IsClean Stands P s → IsReadyForHead Stands HasNext P x (after_steps (steps_of P x tiles) s)
   all_steps s here clean =
       let keeps : PlanKeeps P x tiles = plan_keeps P x tiles list touched in
       keeps.ready (after_steps (steps_of P x tiles) s) (steps-here (steps_of P x tiles) s here)
@@ -66,7 +66,7 @@ module _ (P : List (List Source)) (x : List Source) (tiles : List Tile) (list : 
     where
       at_length : IsMid Stands P (files_after (steps_of P x tiles)) (synced_after (steps_of P x tiles)) (after_steps (steps_of P x tiles) s)
           → IsMidAfter P x tiles (length (steps_of P x tiles)) (after_steps (steps_of P x tiles) s)
-      at_length mid = let D : List Step → Type 0 = λ ds. IsMid Stands P (files_after ds) (synced_after ds) (after_steps (steps_of P x tiles) s) in
+      at_length mid = let D : List FileAction → Type 0 = λ ds. IsMid Stands P (files_after ds) (synced_after ds) (after_steps (steps_of P x tiles) s) in
           subst D (sym (take_all (length (steps_of P x tiles)) (steps_of P x tiles) (omega arith))) mid
 
 pub publishes : Publishes

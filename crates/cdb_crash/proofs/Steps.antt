@@ -8,7 +8,7 @@ use Rattle.cdb_model.proofs.MapLaws.{put-same, put-other, same_text}
 use Rattle.cdb_files.specs.Disk.{State, Possible, IsImage, Allows, after_sync_dir, after_make_dir}
 use Rattle.cdb_files.specs.Whole.{after_fill, after_write}
 use Rattle.cdb_crash.specs.Leftovers.{IsOfVersion, HasAtMost}
-use Rattle.cdb_crash.specs.Crash.{MayLast, with_folder, IsWhole, IsMid, HasRoom, IsReady}
+use Rattle.cdb_crash.specs.Crash.{MayLast, with_folder, IsWhole, IsMid, HasRoom, IsReadyForHead}
 use Rattle.cdb_crash.proofs.Facts.{IsLayout}
 use Rattle.cdb_crash.proofs.Paths.{not_head, not_new_head, at_most-wider, at_most-with}
 use Rattle.cdb_crash.proofs.Possible.{sync_dir-allowed, sync_dir-image, sync_dir-kept, sync_dir-present, kept-settled, two_files}
@@ -140,7 +140,7 @@ module _ {X : Type 0} (Stands : FileMap → List X → Type 0) (Complete : List 
       → IsMid Stands P files synced s → HasAtMost 65535 (length P + 1) files
       → ((q : Text) → IsOfVersion (length P + 1) q → IsThere (files q) → IsTrue (synced (folder_above q)))
       → ((m : FileMap) → ((q : Text) → IsOfVersion (length P + 1) q → m q ≡ files q) → Complete P x m)
-      → IsReady Stands Complete P x s
+      → IsReadyForHead Stands Complete P x s
   ready_step P x files synced s here mid few all complete = record {
     clear = mid.whole.clear;
     room = mid_room P files synced s new_head_path mid few;

@@ -83,7 +83,7 @@ module _ {X : Type 0} (Stands : FileMap → List X → Type 0) where
 
 -- A clear disk with room for the new head, on which all of a publication but the head is there, and stays in whatever a
 -- crash leaves.
-pub record IsReady {X : Type 0} (Stands : FileMap → List X → Type 0) (Complete : List X → X → FileMap → Type 0) (P : List X) (x : X) (s : State) : Type 0 where
+pub record IsReadyForHead {X : Type 0} (Stands : FileMap → List X → Type 0) (Complete : List X → X → FileMap → Type 0) (P : List X) (x : X) (s : State) : Type 0 where
   pub clear : IsClear s
   pub room : HasRoom Stands P new_head_path s
   pub complete : (m n : FileMap) → IsImage s m → SameButHeads m n → Complete P x n

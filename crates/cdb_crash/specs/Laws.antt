@@ -13,9 +13,9 @@ use Rattle.cdb_files.specs.Disk.{State, IsImage, IsSettledAt, after_create, afte
 use Rattle.cdb_files.specs.Moments.{IsBetween}
 use Rattle.cdb_files.specs.Whole.{IsImageBut, after_write}
 use Rattle.cdb_crash.specs.Leftovers.{IsOfVersion, IsLeftover, HasAtMost, HasNext}
-use Rattle.cdb_crash.specs.Plan.{File, Step, files_of, folders_of, steps_of, after_step, after_steps, WritesTo, IsMidAfter}
+use Rattle.cdb_crash.specs.Plan.{File, FileAction, files_of, folders_of, steps_of, after_step, after_steps, WritesTo, IsMidAfter}
 use Rattle.cdb_crash.specs.Recovery.{after_removals, AreLeft, after_barrier}
-use Rattle.cdb_crash.specs.Crash.{IsClear, with_folder, head_filled, head_renamed, head_synced, IsAlone, IsWhole, IsClean, IsMid, HasRoom, IsEither, IsFaulted, IsClearing, IsReady}
+use Rattle.cdb_crash.specs.Crash.{IsClear, with_folder, head_filled, head_renamed, head_synced, IsAlone, IsWhole, IsClean, IsMid, HasRoom, IsEither, IsFaulted, IsClearing, IsReadyForHead}
 
 -- Whatever a crash leaves inside a call, after it where it is Ok, and after it where it fails, is of a kind.
 pub record CallKeeps (Kind : FileMap → Type 0) (old after : State) (Failed : State → Type 0) : Type 0 where
@@ -144,7 +144,7 @@ module _ {X : Type 0} (Stands : FileMap → List X → Type 0) (Complete : List 
   ReadyStep = (P : List X) (x : X) (files : FileMap) (synced : Text → Bool) (s : State) → IsImage s s.present
       → IsMid Stands P files synced s → HasAtMost 65535 (length P + 1) files
       → ((path : Text) → IsOfVersion (length P + 1) path → IsThere (files path) → IsTrue (synced (folder_above path)))
-      → Complete P x files → IsReady Stands Complete P x s
+      → Complete P x files → IsReadyForHead Stands Complete P x s
 
   -- The last step, call by call: the new head is written, it takes the place of the head, the root is synced.
   pub record HeadCalls (text : List ℕ) (P : List X) (x : X) (s : State) : Type 0 where
@@ -156,22 +156,22 @@ module _ {X : Type 0} (Stands : FileMap → List X → Type 0) (Complete : List 
     pub end : IsClean Stands (P ++ x ∷ []) (head_synced text s)
 
   abbrev pub HeadStep : (ℕ → List ℕ) → Type 0
-  HeadStep head_text = (P : List X) (x : X) (s : State) → IsImage s s.present → IsReady Stands Complete P x s → HeadCalls (head_text (length P + 1)) P x s
+  HeadStep head_text = (P : List X) (x : X) (s : State) → IsImage s s.present → IsReadyForHead Stands Complete P x s → HeadCalls (head_text (length P + 1)) P x s
 
 -- The steps of one publication before its head, from a clean disk to where the head alone is left. A step writes under
 -- the next version alone, there is room for its calls, and at each of their moments a crash leaves the old list. A file
 -- that a step has written is there with its bytes.
 pub record PlanKeeps (P : List (List Source)) (x : List Source) (tiles : List Tile) : Type 0 where
   pub begins : (s : State) → IsImage s s.present → IsClean store P s → IsMidAfter P x tiles 0 s
-  pub under : (number : ℕ) (step : Step) → slice_get (steps_of P x tiles) number ≡ Some step → (path : Text) → WritesTo path step → IsOfVersion (length P + 1) path
+  pub under : (number : ℕ) (step : FileAction) → slice_get (steps_of P x tiles) number ≡ Some step → (path : Text) → WritesTo path step → IsOfVersion (length P + 1) path
   pub room : (number : ℕ) (s : State) (path : Text) → IsMidAfter P x tiles number s → HasRoom store P path s
-  pub calls : (number : ℕ) (step : Step) (s : State) → slice_get (steps_of P x tiles) number ≡ Some step → IsImage s s.present
+  pub calls : (number : ℕ) (step : FileAction) (s : State) → slice_get (steps_of P x tiles) number ≡ Some step → IsImage s s.present
       → IsMidAfter P x tiles number s → (path : Text) → WritesTo path step → PathCalls (λ m. store m P) path s
-  pub step : (number : ℕ) (step : Step) (s : State) → slice_get (steps_of P x tiles) number ≡ Some step → IsImage s s.present
+  pub step : (number : ℕ) (step : FileAction) (s : State) → slice_get (steps_of P x tiles) number ≡ Some step → IsImage s s.present
       → IsMidAfter P x tiles number s → IsMidAfter P x tiles (number + 1) (after_step step s)
-  pub there : (i number : ℕ) (s : State) (file : File) → IsMidAfter P x tiles number s → slice_get (steps_of P x tiles) i ≡ Some (Step.write file) → i < number
+  pub there : (i number : ℕ) (s : State) (file : File) → IsMidAfter P x tiles number s → slice_get (steps_of P x tiles) i ≡ Some (FileAction.write file) → i < number
       → s.present file.path ≡ Some file.bytes
-  pub ready : (s : State) → IsImage s s.present → IsMidAfter P x tiles (length (steps_of P x tiles)) s → IsReady store HasNext P x s
+  pub ready : (s : State) → IsImage s s.present → IsMidAfter P x tiles (length (steps_of P x tiles)) s → IsReadyForHead store HasNext P x s
   pub count : length (steps_of P x tiles) + 1 ≡ length x + length tiles + length (folders_of (files_of P x tiles)) + 2
   pub steps : length (steps_of P x tiles) + 1 ≡ step_count P x tiles
 

@@ -21,10 +21,10 @@ pub record File : Type 0 where
 
 -- A file is written and synced in its folder, which is made where it isn't there; a folder is synced; or both, one after
 -- the other, as for the record.
-pub data Step : Type 0 where
-  write : File → Step
-  sync : Text → Step
-  write_and_sync : File → Step
+pub data FileAction : Type 0 where
+  write : File → FileAction
+  sync : Text → FileAction
+  write_and_sync : File → FileAction
 
 -- ---- the plan
 -- The files of sources, by their numbers from one on.
@@ -49,39 +49,39 @@ abbrev pub folders_of : List File → List Text
 folders_of files = each_once (map (λ file. folder_above file.path) files)
 
 -- The files one by one, their folders one by one, and the record with its folder. The head is left.
-abbrev pub steps_of : List (List Source) → List Source → List Tile → List Step
+abbrev pub steps_of : List (List Source) → List Source → List Tile → List FileAction
 steps_of P x tiles = map write (files_of P x tiles) ++ (map sync (folders_of (files_of P x tiles)) ++ write_and_sync (record_of P x tiles) ∷ [])
 
 -- ---- what steps make
 -- What a step, and steps one after another, make of a disk.
-abbrev pub after_step : Step → State → State
+abbrev pub after_step : FileAction → State → State
 after_step (write file) s = after_write (folder_above file.path) file.path file.bytes s
 after_step (sync folder) s = after_sync_dir folder s
 after_step (write_and_sync file) s = after_sync_dir (folder_above file.path) (after_write (folder_above file.path) file.path file.bytes s)
 
-abbrev pub after_steps : List Step → State → State
+abbrev pub after_steps : List FileAction → State → State
 after_steps [] s = s
 after_steps (step ∷ steps) s = after_steps steps (after_step step s)
 
 -- The files that are there after steps, and the folders that were synced.
-abbrev pub with_files : FileMap → Step → FileMap
+abbrev pub with_files : FileMap → FileAction → FileMap
 with_files m (write file) = put m file.path (Some file.bytes)
 with_files m (sync folder) = m
 with_files m (write_and_sync file) = put m file.path (Some file.bytes)
 
-abbrev pub with_synced : (Text → Bool) → Step → Text → Bool
+abbrev pub with_synced : (Text → Bool) → FileAction → Text → Bool
 with_synced synced (write file) = synced
 with_synced synced (sync folder) = with_folder synced folder
 with_synced synced (write_and_sync file) = with_folder synced (folder_above file.path)
 
-abbrev pub files_after : List Step → FileMap
+abbrev pub files_after : List FileAction → FileMap
 files_after steps = fold with_files (λ path. None) steps
 
-abbrev pub synced_after : List Step → Text → Bool
+abbrev pub synced_after : List FileAction → Text → Bool
 synced_after steps = fold with_synced (λ folder. false) steps
 
 -- A step writes to the path.
-abbrev pub WritesTo : Text → Step → Type 0
+abbrev pub WritesTo : Text → FileAction → Type 0
 WritesTo q (write file) = q ≡ file.path
 WritesTo q (sync folder) = ⊥
 WritesTo q (write_and_sync file) = q ≡ file.path

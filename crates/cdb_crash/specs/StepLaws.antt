@@ -12,18 +12,18 @@ use Rattle.cdb_model.specs.TileFile.{tile_bytes}
 use Rattle.cdb_files.specs.Disk.{State, IsSettledAt, Fails, after_create, after_make_dir}
 use Rattle.cdb_files.specs.Whole.{FailsFill, FailsWrite}
 use Rattle.cdb_crash.specs.Crash.{IsClear, head_filled}
-use Rattle.cdb_crash.specs.Plan.{Step, files_of, folders_of, record_of, tile_file, steps_of, IsMidAfter}
+use Rattle.cdb_crash.specs.Plan.{FileAction, files_of, folders_of, record_of, tile_file, steps_of, IsMidAfter}
 
 -- The sources come first, then the tiles, then the folders of both, and the record is the last one.
 pub record Numbers (P : List (List Source)) (x : List Source) (tiles : List Tile) : Type 0 where
   pub source_at : (i : ℕ) (s : Source) → slice_get x i ≡ Some s
-      → slice_get (steps_of P x tiles) i ≡ Some (Step.write (record { path = source_path (length P + 1) (i + 1); bytes = source_text s }))
+      → slice_get (steps_of P x tiles) i ≡ Some (FileAction.write (record { path = source_path (length P + 1) (i + 1); bytes = source_text s }))
   pub tile_at : (i number : ℕ) (t : Tile) → number ≡ length x + i → slice_get tiles i ≡ Some t
-      → slice_get (steps_of P x tiles) number ≡ Some (Step.write (tile_file (length P + 1) (sources_of (P ++ x ∷ [])) t))
+      → slice_get (steps_of P x tiles) number ≡ Some (FileAction.write (tile_file (length P + 1) (sources_of (P ++ x ∷ [])) t))
   pub folder_at : (i number : ℕ) (folder : Text) → number ≡ length x + length tiles + i → slice_get (folders_of (files_of P x tiles)) i ≡ Some folder
-      → slice_get (steps_of P x tiles) number ≡ Some (Step.sync folder)
+      → slice_get (steps_of P x tiles) number ≡ Some (FileAction.sync folder)
   pub record_at : (number : ℕ) → number ≡ length x + length tiles + length (folders_of (files_of P x tiles))
-      → slice_get (steps_of P x tiles) number ≡ Some (Step.write_and_sync (record_of P x tiles))
+      → slice_get (steps_of P x tiles) number ≡ Some (FileAction.write_and_sync (record_of P x tiles))
 
 abbrev pub StepNumbers : Type 0
 StepNumbers = (P : List (List Source)) (x : List Source) (tiles : List Tile) → Numbers P x tiles

@@ -10,10 +10,10 @@ use Rattle.cdb_grid.specs.declared.tile.Tile.{Tile}
 use Rattle.cdb_grid.proofs.ChildPlaces.{even}
 use Rattle.cdb_source.specs.declared.source.Source.{Source}
 use Rattle.cdb_cut.specs.FinerTiles.{AreChildren}
-use Rattle.cdb_cut.specs.OneTile.{IsFolded, IsWholeFolded, Stands}
+use Rattle.cdb_cut.specs.OneTile.{IsFolded, IsWholeFolded, StandsIn}
 use Rattle.cdb_cut.proofs.OneTileWhole.{folded_whole, folded_finest}
 
-pub even_side : (c t : Tile) (row col : ℕ) → Stands c t row col → tile_side c % 2 ≡ 0
+pub even_side : (c t : Tile) (row col : ℕ) → StandsIn c t row col → tile_side c % 2 ≡ 0
 even_side c t row col at =
     let e : tile_side c ≡ 2 * (tile_side c / 2) = even c t row col at.parent at.begins in omega arith
 

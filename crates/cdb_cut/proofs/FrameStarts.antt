@@ -12,16 +12,16 @@ use Rattle.cdb_source.specs.Reached.{kind_of}
 use Rattle.cdb_source.specs.declared.kind.Kind.{Kind}
 use Rattle.cdb_source.specs.declared.kind.Kind.TheVariants.{Elevation}
 use Rattle.cdb_source.specs.declared.source.Source.{Source}
-use Rattle.cdb_cut.specs.FinerTiles.{IsPlain, elevation_of}
+use Rattle.cdb_cut.specs.FinerTiles.{IsPlain, elevation_tile}
 use Rattle.cdb_cut.specs.Laws.{IsExtreme}
-use Rattle.cdb_cut.specs.OneTile.{elevations_of, IsElevationOf, IsFolded, nothing}
+use Rattle.cdb_cut.specs.OneTile.{elevations_of, IsElevationOf, IsFolded, no_values}
 use Rattle.cdb_cut.proofs.OneTileWhole.{start_empty}
 use Rattle.cdb_cut.proofs.Plain.{value_plain}
 
 pub cleared : (t : Tile) (none : ℤ) (k : ℕ) (old new : List ℤ)
     → none ≡ none_of (kind_of t.family) → length old ≡ tile_side t * tile_side t → length old ≤ k
     → IsRowChanged (λ i v. none) k old new
-    → (ss : List Source) → IsFolded ss t nothing [] new
+    → (ss : List Source) → IsFolded ss t no_values [] new
 cleared t none k old new is size all changed ss =
     start_empty ss t new (changed.size ∙ size) (λ row col r c.
     let n = tile_side t in
@@ -35,7 +35,7 @@ pub extreme_kind : (f : Family) → (f ≡ Low) ⊎ (f ≡ High) → kind_of f �
 extreme_kind f (inl e) = ap kind_of e
 extreme_kind f (inr e) = ap kind_of e
 
-pub elevations_same : (t : Tile) → IsElevationOf (elevation_of t) t
+pub elevations_same : (t : Tile) → IsElevationOf (elevation_tile t) t
 elevations_same t = record { family = refl; cell = refl; level = refl; up = refl; right = refl }
 
 pub plain_elevations : (ss : List Source) (t : Tile) → IsExtreme t.family → IsPlain t (elevations_of ss t)

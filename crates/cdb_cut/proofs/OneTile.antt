@@ -18,7 +18,7 @@ use Rattle.cdb_source.specs.Reached.{kind_of, family_value, tile_value, Reaches}
 use Rattle.cdb_source.specs.Folds.{lesser_number, greater_number}
 use Rattle.cdb_source.proofs.MaterialLaws as materials
 use Rattle.cdb_source.proofs.ReachLaws.{tile_unreached}
-use Rattle.cdb_cut.specs.OneTile.{IsFrameOf, finer_height, of_four, under, joined, four_rule, IsFolded, Stands}
+use Rattle.cdb_cut.specs.OneTile.{IsFrameOf, finer_height, of_four, under, joined_value, four_rule, IsFolded, StandsIn}
 use Rattle.cdb_cut.proofs.Plain.{IsPlain, read_back, value_plain, or_plain, lesser_plain, greater_plain, four_has}
 use Rattle.cdb_grid.proofs.ChildPlaces.{InPart, height-under, child_corner_at, part_or_beside, beside_out, inside_child}
 
@@ -30,7 +30,7 @@ of_four_plain Low a b c d p q r s = lesser_plain Elevation (lesser a b) (lesser 
 of_four_plain High a b c d p q r s = greater_plain Elevation (greater a b) (greater c d) (greater_plain Elevation a b p q) (greater_plain Elevation c d r s)
 of_four_plain Mat a b c d p q r s = four_has (λ v. v ≡ none_of Material → ⊥) a b c d p q r s
 
-joined_plain : (f : Family) (a b : Option ℤ) → IsPlain (kind_of f) a → IsPlain (kind_of f) b → IsPlain (kind_of f) (joined f a b)
+joined_plain : (f : Family) (a b : Option ℤ) → IsPlain (kind_of f) a → IsPlain (kind_of f) b → IsPlain (kind_of f) (joined_value f a b)
 joined_plain Elev a b p q = or_plain Elevation b a q p
 joined_plain Low a b p q = lesser_plain Elevation a b p q
 joined_plain High a b p q = greater_plain Elevation a b p q
@@ -44,7 +44,7 @@ greater_coded a b p q = ap (coded Elevation) (ap₂ greater (read_back Elevation
 
 -- a rule on numbers does what the family asks of values
 rule_coded : (f : Family) (o a b c d : Option ℤ) → IsPlain (kind_of f) o → IsPlain (kind_of f) a → IsPlain (kind_of f) b → IsPlain (kind_of f) c → IsPlain (kind_of f) d
-    → four_rule f (coded (kind_of f) o) (coded (kind_of f) a) (coded (kind_of f) b) (coded (kind_of f) c) (coded (kind_of f) d) ≡ coded (kind_of f) (joined f o (of_four f a b c d))
+    → four_rule f (coded (kind_of f) o) (coded (kind_of f) a) (coded (kind_of f) b) (coded (kind_of f) c) (coded (kind_of f) d) ≡ coded (kind_of f) (joined_value f o (of_four f a b c d))
 rule_coded Elev o a b c d p q r s t = ap (coded Elevation) (ap₂ option_or (read_back Elevation a q) (read_back Elevation o p))
 rule_coded Low o a b c d p q r s t =
     ap₂ (λ x y. lesser_number (coded Elevation o) (lesser_number x y)) (lesser_coded a b q r) (lesser_coded c d s t)
@@ -58,7 +58,7 @@ rule_coded Mat o a b c d p q r s t =
     rw (read_back Material a q, read_back Material b r, read_back Material c s, read_back Material d t, read_back Material o p) refl
 
 -- to join twice is to join once
-twice : (f : Family) (o u : Option ℤ) → joined f (joined f o u) u ≡ joined f o u
+twice : (f : Family) (o u : Option ℤ) → joined_value f (joined_value f o u) u ≡ joined_value f o u
 twice Elev o None = refl
 twice Elev o (Some v) = refl
 twice Mat o None = refl
@@ -96,7 +96,7 @@ twice High (Some x) (Some y) = by (int_lt x y) refl
     by true e = either_same (int_lt y y)
     by false e = rw e refl
 
-pub joined_none : (f : Family) (o : Option ℤ) → joined f o None ≡ o
+pub joined_none : (f : Family) (o : Option ℤ) → joined_value f o None ≡ o
 joined_none Elev o = refl
 joined_none Low None = refl
 joined_none Low (Some v) = refl
@@ -118,7 +118,7 @@ under_plain_at ss t row col =
     (value_plain f ss h (beside h C 0 0)) (value_plain f ss h (beside h C 0 1)) (value_plain f ss h (beside h C 1 0)) (value_plain f ss h (beside h C 1 1))
 
 -- ---- a finer tile folded in
-module _ (ss : List Source) (t : Tile) (start : ℕ → ℕ → Option ℤ) (c : Tile) (row col : ℕ) (at : Stands c t row col) where
+module _ (ss : List Source) (t : Tile) (start : ℕ → ℕ → Option ℤ) (c : Tile) (row col : ℕ) (at : StandsIn c t row col) where
   abbrev half : ℕ
   half = tile_side c / 2
 
@@ -154,7 +154,7 @@ module _ (ss : List Source) (t : Tile) (start : ℕ → ℕ → Option ℤ) (c :
 
   -- the number that the rule gives, where the number was that of a value
   ruled : (child : List ℤ) → IsFrameOf ss c child → (r q : ℕ) → r < half → q < half → (o : Option ℤ) → IsPlain k o
-      → four_under (four_rule f) child (tile_side c) r q (coded k o) ≡ coded k (joined f o (under f ss h (element_corner t (row + r) (col + q))))
+      → four_under (four_rule f) child (tile_side c) r q (coded k o) ≡ coded k (joined_value f o (under f ss h (element_corner t (row + r) (col + q))))
   ruled child of r q rl ql o plain =
       let C : Place = element_corner t (row + r) (col + q) in
       let value : ℕ → ℕ → Option ℤ = λ i j. family_value f ss h (beside h C i j) in
@@ -169,7 +169,7 @@ module _ (ss : List Source) (t : Tile) (start : ℕ → ℕ → Option ℤ) (c :
       (rule_coded f o (value 0 0) (value 0 1) (value 1 0) (value 1 1) plain (plain_at 0 0) (plain_at 0 1) (plain_at 1 0) (plain_at 1 1))
 
   abbrev full : ℕ → ℕ → Option ℤ
-  full r q = joined f (start r q) (under f ss h (element_corner t r q))
+  full r q = joined_value f (start r q) (under f ss h (element_corner t r q))
 
   abbrev Folded : List Tile → List ℤ → ℕ → ℕ → Type 0
   Folded done frame r q =
@@ -234,7 +234,7 @@ module _ (ss : List Source) (t : Tile) (start : ℕ → ℕ → Option ℤ) (c :
 
       whole_at : (x y : ℕ) → x < half → y < half → Folded done frame (row + x) (col + y) → Folded (done ++ c ∷ []) frame (row + x) (col + y)
       whole_at x y xl yl (inl e) = inl e
-      whole_at x y xl yl (inr e) = inl (e.0 ∙ ap (coded k) (sym (ap (joined f (start (row + x) (col + y))) (nothing_under x y xl yl) ∙ joined_none f (start (row + x) (col + y)))))
+      whole_at x y xl yl (inr e) = inl (e.0 ∙ ap (coded k) (sym (ap (joined_value f (start (row + x) (col + y))) (nothing_under x y xl yl) ∙ joined_none f (start (row + x) (col + y)))))
 
       at_place : (r q x y : ℕ) → row + x ≡ r → col + y ≡ q → x < half → y < half → Folded done frame r q → Folded (done ++ c ∷ []) frame r q
       at_place r q x y er eq xl yl was =

@@ -28,8 +28,8 @@ use Rattle.cdb_source.proofs.ElevationLaws as elevations
 use Rattle.cdb_source.proofs.MaterialLaws as materials
 use Rattle.cdb_source.proofs.ReachLaws.{tile_unreached}
 use Rattle.cdb_source.proofs.SampleLaws.{in_box_of_sample}
-use Rattle.cdb_cut.specs.Window.{HasPlace}
-use Rattle.cdb_cut.specs.OneTile.{IsFrameOf, finer_height, under, joined, IsFolded, IsWholeFolded, IsPainted, IsPaintedBy, IsFilled, nothing, elevations_of, IsElevationOf}
+use Rattle.cdb_cut.specs.Window.{HasPlaceInBox}
+use Rattle.cdb_cut.specs.OneTile.{IsFrameOf, finer_height, under, joined_value, IsFolded, IsWholeFolded, IsPainted, IsPaintedBy, IsFilled, no_values, elevations_of, IsElevationOf}
 use Rattle.cdb_cut.proofs.Plain.{read_back, value_plain, newest_plain, or_plain}
 use Rattle.cdb_cut.proofs.OneTile.{under_plain_at, four_none, joined_none}
 
@@ -37,7 +37,7 @@ use Rattle.cdb_cut.proofs.OneTile.{under_plain_at, four_none, joined_none}
 
 -- a frame without a value, for elevations and materials
 pub start_empty : (ss : List Source) (t : Tile) (frame : List ℤ) → length frame ≡ tile_side t * tile_side t
-    → ((row col : ℕ) → row < tile_side t → col < tile_side t → number_at frame (tile_side t) row col ≡ none_of (kind_of t.family)) → IsFolded ss t nothing [] frame
+    → ((row col : ℕ) → row < tile_side t → col < tile_side t → number_at frame (tile_side t) row col ≡ none_of (kind_of t.family)) → IsFolded ss t no_values [] frame
 start_empty ss t frame size empty = record {
   size = size;
   each = λ row col below right. inr (empty row col below right, All-nil (λ d. IsInTile d (element_corner t row col) → ⊥));
@@ -96,7 +96,7 @@ folded_finest ss t start frame finest folded = record {
   size = folded.size;
   each = λ row col below right. elim (folded.each row col below right) [
     | inl e ↦ e
-    | inr e ↦ e.0 ∙ ap (coded (kind_of t.family)) (sym (ap (joined t.family (start row col)) (nothing_under row col) ∙ joined_none t.family (start row col)))
+    | inr e ↦ e.0 ∙ ap (coded (kind_of t.family)) (sym (ap (joined_value t.family (start row col)) (nothing_under row col) ∙ joined_none t.family (start row col)))
   ];
 }
   where
@@ -118,7 +118,7 @@ unfolding high
 high-suc ss h c = refl
 
 -- the least, and the greatest, elevations are then whole
-extreme_by : (f : Family) (ss : List Source) (h : ℕ) (c : Place) → (f ≡ Low) ⊎ (f ≡ High) → joined f (elevation_of ss (suc h) c) (under f ss h c) ≡ family_value f ss (suc h) c
+extreme_by : (f : Family) (ss : List Source) (h : ℕ) (c : Place) → (f ≡ Low) ⊎ (f ≡ High) → joined_value f (elevation_of ss (suc h) c) (under f ss h c) ≡ family_value f ss (suc h) c
 extreme_by f ss h c (inl e) = rw e (sym (low-suc ss h c))
 extreme_by f ss h c (inr e) = rw e (sym (high-suc ss h c))
 
@@ -126,18 +126,18 @@ pub extreme_whole : (ss : List Source) (t : Tile) (frame : List ℤ) → (t.fami
 extreme_whole ss t frame family whole = record {
   size = whole.size;
   each = λ row col below right. whole.each row col below right ∙ ap (coded (kind_of t.family))
-      (ap (λ n. joined t.family (elevation_of ss n (element_corner t row col)) (under t.family ss (finer_height t) (element_corner t row col))) (height-suc t)
+      (ap (λ n. joined_value t.family (elevation_of ss n (element_corner t row col)) (under t.family ss (finer_height t) (element_corner t row col))) (height-suc t)
       ∙ extreme_by t.family ss (finer_height t) (element_corner t row col) family
       ∙ ap (λ n. family_value t.family ss n (element_corner t row col)) (sym (height-suc t)));
 }
 
 -- ---- the sources of exactly the tile's level, newest first
 
-or_with_none : (f : Family) (u : Option ℤ) → (f ≡ Elev) ⊎ (f ≡ Mat) → joined f None u ≡ option_or u None
+or_with_none : (f : Family) (u : Option ℤ) → (f ≡ Elev) ⊎ (f ≡ Mat) → joined_value f None u ≡ option_or u None
 or_with_none f u (inl e) = rw e refl
 or_with_none f u (inr e) = rw e refl
 
-pub paint_start : (ss : List Source) (t : Tile) (frame : List ℤ) → (t.family ≡ Elev) ⊎ (t.family ≡ Mat) → IsWholeFolded ss t nothing frame → IsPaintedBy ss t [] frame
+pub paint_start : (ss : List Source) (t : Tile) (frame : List ℤ) → (t.family ≡ Elev) ⊎ (t.family ≡ Mat) → IsWholeFolded ss t no_values frame → IsPaintedBy ss t [] frame
 paint_start ss t frame family whole = record {
   size = whole.size;
   each = λ row col below right. whole.each row col below right ∙ ap (coded (kind_of t.family)) (or_with_none t.family (under t.family ss (finer_height t) (element_corner t row col)) family);
@@ -222,7 +222,7 @@ pass_source ss t s qs frame apart before =
     pass_unsampled ss t s qs frame (λ kind level row col below right. unsampled t s (apart kind level) kind level row col below right) before
 
 -- one that has no place of the tile in its box
-outside_none : (t : Tile) (s : Source) → (HasPlace s.head t → ⊥) → (row col : ℕ) → row < tile_side t → col < tile_side t → sample_at s (element_place t row col) ≡ None
+outside_none : (t : Tile) (s : Source) → (HasPlaceInBox s.head t → ⊥) → (row col : ℕ) → row < tile_side t → col < tile_side t → sample_at s (element_place t row col) ≡ None
 outside_none t s out row col below right = by (sample_at s (element_place t row col)) refl
   where
     by : (o : Option ℤ) → sample_at s (element_place t row col) ≡ o → o ≡ None
@@ -230,7 +230,7 @@ outside_none t s out row col below right = by (sample_at s (element_place t row 
     by (Some v) e = absurd (out (record { row = row; col = col; row_below = below; col_below = right; inside = in_box_of_sample s (element_place t row col) v e }))
 
 pub pass_outside : (ss : List Source) (t : Tile) (s : Source) (own : List Source) (frame : List ℤ)
-    → (s.head.kind ≡ kind_of t.family → source_height s.head ≡ tile_height t → HasPlace s.head t → ⊥) → IsPaintedBy ss t own frame → IsPaintedBy ss t (s ∷ own) frame
+    → (s.head.kind ≡ kind_of t.family → source_height s.head ≡ tile_height t → HasPlaceInBox s.head t → ⊥) → IsPaintedBy ss t own frame → IsPaintedBy ss t (s ∷ own) frame
 pass_outside ss t s qs frame out before =
     pass_unsampled ss t s qs frame (λ kind level row col below right. outside_none t s (out kind level) row col below right) before
 

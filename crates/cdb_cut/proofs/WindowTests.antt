@@ -13,7 +13,7 @@ use Rattle.cdb_source.specs.declared.head.SourceHead.{SourceHead}
 use Rattle.cdb_source.specs.declared.kind.Kind.{Kind}
 use Rattle.cdb_source.specs.declared.kind.Kind.TheVariants.{Elevation, Material}
 use Rattle.cdb_source.proofs.SampleLaws.{in_box}
-use Rattle.cdb_cut.specs.Window.{HasPlace, HasNoWindow, IsWindow, has_place, has_window}
+use Rattle.cdb_cut.specs.Window.{HasPlaceInBox, HasNoWindow, IsWindow, has_place, has_window}
 use Rattle.cdb_cut.proofs.PaintLaws.{box_test}
 
 both_true : (a b : Bool) → a ≡ true → b ≡ true → (a && b) ≡ true
@@ -43,7 +43,7 @@ not_true : (b : Bool) → (b ≡ true → ⊥) → b ≡ false
 not_true true h = absurd (h refl)
 not_true false h = refl
 
-place_true : (head : SourceHead) (t : Tile) → HasPlace head t → has_place head t ≡ true
+place_true : (head : SourceHead) (t : Tile) → HasPlaceInBox head t → has_place head t ≡ true
 unfolding has_place
 place_true head t p =
     let n = tile_side t in
@@ -55,7 +55,7 @@ place_true head t p =
     list_any_at (λ r. list_any (λ c. is_in_box head (element_place t r c)) (range_with_len 0 n)) (range_with_len 0 n) p.row 0 (omega (arith, length-range_with_len 0 n, p.row_below))
     (ap (λ r. list_any (λ c. is_in_box head (element_place t r c)) (range_with_len 0 n)) row ∙ inner)
 
-place_false : (head : SourceHead) (t : Tile) → (HasPlace head t → ⊥) → has_place head t ≡ false
+place_false : (head : SourceHead) (t : Tile) → (HasPlaceInBox head t → ⊥) → has_place head t ≡ false
 unfolding has_place
 place_false head t none =
     let n = tile_side t in

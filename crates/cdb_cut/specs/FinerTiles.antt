@@ -20,8 +20,8 @@ pub record AreChildren (t : Tile) (items : List Tile) : Type 0 where
   pub fill : t.level.number <ℤ pos 23 → (p : Place) → IsInTile t p → Any (λ c. IsInTile c p) items
 
 -- the tile of elevations of the same cells
-abbrev pub elevation_of : Tile → Tile
-elevation_of t = record {
+abbrev pub elevation_tile : Tile → Tile
+elevation_tile t = record {
   family = Elev;
   cell = t.cell;
   level = t.level;

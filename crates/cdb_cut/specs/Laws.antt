@@ -16,7 +16,7 @@ use Rattle.cdb_source.specs.Sample.{post_at}
 use Rattle.cdb_source.specs.Reached.{kind_of, source_height, family_value, Reaches}
 use Rattle.cdb_cut.specs.Blend.{value_from}
 use Rattle.cdb_cut.specs.Window.{IsWindow, HasNoWindow, has_window}
-use Rattle.cdb_cut.specs.OneTile.{IsFrameOf, four_rule, IsFolded, IsWholeFolded, IsPainted, IsPaintedBy, IsFilled, nothing, elevations_of, IsElevationOf, Stands}
+use Rattle.cdb_cut.specs.OneTile.{IsFrameOf, four_rule, IsFolded, IsWholeFolded, IsPainted, IsPaintedBy, IsFilled, no_values, elevations_of, IsElevationOf, StandsIn}
 
 -- no value is the number that stands for none
 abbrev pub PlainValues : Type 0
@@ -45,16 +45,16 @@ abbrev pub IsExtreme : Family → Type 0
 IsExtreme f = (f ≡ Low) ⊎ (f ≡ High)
 
 -- the finer tiles of a tile, one after the other: each is folded in, or no source reaches it
-pub record FromFiner : Type 0 where
+pub record TileFromFiner : Type 0 where
   pub empty : (ss : List Source) (t : Tile) (frame : List ℤ) → length frame ≡ tile_side t * tile_side t
-      → ((row col : ℕ) → row < tile_side t → col < tile_side t → number_at frame (tile_side t) row col ≡ none_of (kind_of t.family)) → IsFolded ss t nothing [] frame
+      → ((row col : ℕ) → row < tile_side t → col < tile_side t → number_at frame (tile_side t) row col ≡ none_of (kind_of t.family)) → IsFolded ss t no_values [] frame
   pub elevations : (ss : List Source) (t e : Tile) (frame : List ℤ) → kind_of t.family ≡ Elevation → IsElevationOf e t → IsFrameOf ss e frame → IsFolded ss t (elevations_of ss t) [] frame
-  pub fold : (ss : List Source) (t : Tile) (start : ℕ → ℕ → Option ℤ) (c : Tile) (row col : ℕ) → Stands c t row col
+  pub fold : (ss : List Source) (t : Tile) (start : ℕ → ℕ → Option ℤ) (c : Tile) (row col : ℕ) → StandsIn c t row col
       → ((r q : ℕ) → IfSome (start r q) (λ v. v ≡ none_of (kind_of t.family) → ⊥))
       → (child : List ℤ) → IsFrameOf ss c child → (done : List Tile) (old new : List ℤ) → IsFolded ss t start done old
       → IsPartChanged (four_under (four_rule t.family) child (tile_side c)) row col (tile_side c / 2) (tile_side c / 2) (tile_side t) old new
       → IsFolded ss t start (done ++ c ∷ []) new
-  pub miss : (ss : List Source) (t : Tile) (start : ℕ → ℕ → Option ℤ) (c : Tile) (row col : ℕ) → Stands c t row col → NoneReaches ss c
+  pub miss : (ss : List Source) (t : Tile) (start : ℕ → ℕ → Option ℤ) (c : Tile) (row col : ℕ) → StandsIn c t row col → NoneReaches ss c
       → (done : List Tile) (frame : List ℤ) → IsFolded ss t start done frame → IsFolded ss t start (done ++ c ∷ []) frame
   pub whole : (ss : List Source) (t : Tile) (start : ℕ → ℕ → Option ℤ) (done : List Tile) (frame : List ℤ) → IsFolded ss t start done frame
       → ((p : Place) → IsInTile t p → Any (λ d. IsInTile d p) done) → IsWholeFolded ss t start frame
@@ -64,11 +64,11 @@ pub record FromFiner : Type 0 where
 -- where a child stands in its parent is what the call that tells it says
 abbrev pub StandsAt : Type 0
 StandsAt = (c t : Tile) (row col : ℕ) → IsParent c t → ((p : Tile) → IsParent c p → element_corner p row col ≡ element_corner c 0 0)
-    → row + tile_side c / 2 ≤ side_of (tile_height c + 1) → col + tile_side c / 2 ≤ side_of (tile_height c + 1) → Stands c t row col
+    → row + tile_side c / 2 ≤ side_of (tile_height c + 1) → col + tile_side c / 2 ≤ side_of (tile_height c + 1) → StandsIn c t row col
 
 -- then the sources of exactly the tile's level, newest first, and the tile that stood there before; or all sources, and no older tile
 pub record FromOwn : Type 0 where
-  pub start : (ss : List Source) (t : Tile) (frame : List ℤ) → IsOwn t.family → IsWholeFolded ss t nothing frame → IsPaintedBy ss t [] frame
+  pub start : (ss : List Source) (t : Tile) (frame : List ℤ) → IsOwn t.family → IsWholeFolded ss t no_values frame → IsPaintedBy ss t [] frame
   pub paint : (ss : List Source) (t : Tile) (s : Source) (own : List Source) (old new : List ℤ) → s.head.kind ≡ kind_of t.family → source_height s.head ≡ tile_height t
       → IsPaintedBy ss t own old → IsPainted s t old new → IsPaintedBy ss t (s ∷ own) new
   pub pass : (ss : List Source) (t : Tile) (s : Source) (own : List Source) (frame : List ℤ)

@@ -12,7 +12,7 @@ use Rattle.cdb_source.specs.Reached.{kind_of}
 use Rattle.cdb_source.specs.Values.{same_kind}
 
 -- a place of a tile lies in the box of a source
-pub record HasPlace (head : SourceHead) (t : Tile) : Type 0 where
+pub record HasPlaceInBox (head : SourceHead) (t : Tile) : Type 0 where
   pub row : ℕ
   pub col : ℕ
   pub row_below : row < tile_side t
@@ -26,7 +26,7 @@ LooksAt Material step far row = (row * step ≤ far) × (far < row * step + step
 
 -- sampling at a place of a tile in the box looks at a row of the source
 pub record IsLookedAt (head : SourceHead) (t : Tile) (source_row : ℕ) : Type 0 where
-  pub place : HasPlace head t
+  pub place : HasPlaceInBox head t
   pub looks : LooksAt head.kind (row_step head) ((element_place t place.row place.col).north - (corner_of head).north) source_row
 
 -- so many rows from a first one on are the least run that has every row that is looked at
@@ -40,7 +40,7 @@ pub record IsWindow (head : SourceHead) (t : Tile) (first count : ℕ) : Type 0 
 
 -- there is nothing to look at: the kinds differ, or no place of the tile lies in the box
 abbrev pub HasNoWindow : SourceHead → Tile → Type 0
-HasNoWindow head t = head.kind ≡ kind_of t.family → HasPlace head t → ⊥
+HasNoWindow head t = head.kind ≡ kind_of t.family → HasPlaceInBox head t → ⊥
 
 -- the posts of so many rows of a source from a first one on
 abbrev pub rows_of : Source → ℕ → ℕ → List ℤ

@@ -16,7 +16,7 @@ struct Sum {
 }
 
 /// The total with one post more. A post of weight zero isn't looked at.
-fn added(total: Option<i128>, weight: u128, post: Option<i16>) -> Option<i128>
+fn add_post(total: Option<i128>, weight: u128, post: Option<i16>) -> Option<i128>
     requires weight { weight ≤ 2 ^ 98 }
     requires total { IfSome total (λ n. unsigned_abs n ≤ 32767 * 2 ^ 100) }
     requires post { IfSome post (λ v. unsigned_abs v ≤ 32767) }
@@ -42,7 +42,7 @@ fn with_post(sum: Sum, weight: u128, post: Option<i16>) -> Sum
 {
     Sum {
         weight: sum.weight + weight,
-        total: added(sum.total, weight, post),
+        total: add_post(sum.total, weight, post),
     }
 }
 
@@ -80,7 +80,7 @@ fn mean(total: i128, weight: u128) -> i16
 /// The four posts around a point, whose distances to the first row and the first column are `up`
 /// and `right`.
 #[tactic(auto, using(crate::proofs::MeanLaws::four_weights), unfolding(cdb_source::specs::Sample::weighted_sum))]
-fn weighted(source: &Source, up: u64, right: u64) -> Sum
+fn weigh(source: &Source, up: u64, right: u64) -> Sum
     requires up { up ≤ 6262062317568000 }
     requires right { right ≤ 12524124635136000 }
     ensures total { result.total ≡ weighted_sum (post_at source.now) (row_step source.now.head)
@@ -122,7 +122,7 @@ pub(crate) fn mean_of_four(source: &Source, up: u64, right: u64) -> Option<i16>
         result ≡ option_map (rounded (row_step head * column_step head))
         (weighted_sum (post_at source.now) (row_step head) (column_step head) up right) }
 {
-    let sum = weighted(source, up, right);
+    let sum = weigh(source, up, right);
     match sum.total {
         Some(total) => Some(mean(total, sum.weight)),
         None => None,

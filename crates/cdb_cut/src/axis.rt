@@ -3,7 +3,7 @@ ghost use Rattle.std.specs.Prelude.{◌≡◌, ℕ, ◌+◌, ◌-◌, ◌*◌, �
 ghost use Rattle.cdb_grid.specs.Units.{degree};
 ghost use Rattle.cdb_grid.specs.Tiles.{tile_side, tile_height, element_place};
 ghost use Rattle.cdb_source.specs.Sample.{IsBefore, corner_of, box_height, box_width};
-ghost use Rattle.cdb_cut.specs.Window.{HasPlace};
+ghost use Rattle.cdb_cut.specs.Window.{HasPlaceInBox};
 
 use cdb_grid::units::{east_of, height, north_of, step, width};
 use cdb_grid::{Tile, place, side};

@@ -1,5 +1,5 @@
 //! Laws, each the contract of a function that does nothing.
-ghost use Rattle.cdb_cut.specs.Laws.{PlainValues, ReducedMeans, WindowsAreTested, FromFiner, FromOwn, StandsAt};
+ghost use Rattle.cdb_cut.specs.Laws.{PlainValues, ReducedMeans, WindowsAreTested, TileFromFiner, FromOwn, StandsAt};
 
 /// A value of a tile is never the number that stands for no value.
 pub fn values_are_plain()
@@ -22,7 +22,7 @@ pub fn windows_are_tested()
 /// source reaches is passed over, and at the finest level there is none. Least and greatest elevations
 /// begin with the elevations of the same cells, and are whole then.
 pub fn tile_from_finer()
-    ensures { FromFiner }
+    ensures { TileFromFiner }
 {}
 
 /// Elevations and materials then take the sources of exactly the tile's level, newest first, where they

@@ -29,7 +29,7 @@ fn common_divisor(a: u64, b: u64) -> u64
 }
 
 /// Distances with a divisor that they share taken out.
-fn reduced(start: u64, stride: u64, step: u64) -> Axis
+fn reduce(start: u64, stride: u64, step: u64) -> Axis
     requires start { start < 2 ^ 56 }
     requires stride { stride ≤ 417470821171200 }
     requires step { 1 ≤ step }
@@ -68,7 +68,7 @@ pub(crate) fn part_of(head: &SourceHead, rows: Rows, tile: &Tile) -> TilePart
     TilePart {
         rows,
         cols,
-        lat: reduced(up, places.up, head.row_step()),
-        lon: reduced(right, places.right, head.column_step()),
+        lat: reduce(up, places.up, head.row_step()),
+        lon: reduce(right, places.right, head.column_step()),
     }
 }

@@ -208,7 +208,7 @@ fn tile_of(case: &Case) -> Result<Tile, Fail> {
 
 /// Paints a source's window for a tile, and says which rows it has. None where there is none, or the
 /// lengths don't fit.
-fn painted(source: &Source, tile: &Tile, frame: &mut [i16]) -> Option<Rows> {
+fn paint_window(source: &Source, tile: &Tile, frame: &mut [i16]) -> Option<Rows> {
     let rows = window(&source.head, tile)?;
     let cols = source.head.cols as usize;
     let from = rows.first as usize * cols;
@@ -235,7 +235,7 @@ fn tiles_from_sources(rt: HostRuntime) -> Result<(), Fail> {
         let source = source_of(rt.alloc(), case)?;
         let tile = tile_of(case)?;
         let mut frame = case.before;
-        let rows = painted(&source, &tile, &mut frame);
+        let rows = paint_window(&source, &tile, &mut frame);
         assert_eq!(rt; rows, case.window);
         assert_eq!(rt; frame, case.after);
     }

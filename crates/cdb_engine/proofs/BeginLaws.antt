@@ -2,8 +2,8 @@
 use Rattle.std.proofs.Common.{◌≡◌, ℕ, ◌<◌, ◌≤◌, List, [], length, Option, None, Result, Ok, Err, IsSome, sym, ap, subst, arith}
 use Rattle.cdb_grid.specs.declared.tile.Tile.{Tile}
 use Rattle.cdb_source.specs.declared.source.Source.{Source}
-use Rattle.cdb_model.specs.Stores.{Which, known, any, kind_of}
-use Rattle.cdb_model.specs.Transitions.{StateIn, GoingIn, BeginsIn}
+use Rattle.cdb_model.specs.Stores.{Which, known, any, store_kind}
+use Rattle.cdb_model.specs.Transitions.{StateIn, GoingIn, PublishLineIn}
 use Rattle.cdb_engine.specs.StoreAnswers.{publish_answer}
 use Rattle.cdb_engine.specs.Tracks.{Leads}
 use Rattle.cdb_engine.specs.declared.errors.PublishError.{PublishError}
@@ -15,9 +15,9 @@ use Rattle.cdb_engine.specs.Populating.{begun_of, BeginsDrawn}
 use Rattle.cdb_engine.specs.declared.errors.PopulateError.{PopulateError}
 
 -- a publication has steps
-some_left : (w : Which) (list : (kind_of w).Listed) (sources : List Source) (tiles : List Tile) (planned :
-    (kind_of w).Planned) (left : ℕ)
-    → (kind_of w).Starts list sources tiles planned left → 0 < left
+some_left : (w : Which) (list : (store_kind w).Listed) (sources : List Source) (tiles : List Tile) (planned :
+    (store_kind w).Planned) (left : ℕ)
+    → (store_kind w).Starts list sources tiles planned left → 0 < left
 some_left known list sources tiles planned left starts = let e = starts.1 in omega (arith, e)
 some_left any list sources tiles planned left starts = starts.1
 
@@ -28,9 +28,9 @@ some_drawn x sources d e = let n : 1 ≤ length sources = drawn_fits.some x sour
 none_there : (A : Type 0) → IsSome {T = A} None → ⊥
 none_there A some = cc
 
-module _ (w : Which) (s : StateIn (kind_of w)) (x : ℕ) (New : StateIn (kind_of w) → Type 0)
+module _ (w : Which) (s : StateIn (store_kind w)) (x : ℕ) (New : StateIn (store_kind w) → Type 0)
     (running : s.halted ≡ None) (idle : s.going ≡ None) (drawn : PublicationDrawn x s.pending) where
-  begins : (r : Result Begun PublishError) → Leads (BeginsIn (kind_of w) s (publish_answer r)) New
+  begins : (r : Result Begun PublishError) → Leads (PublishLineIn (store_kind w) s (publish_answer r)) New
       → BeginsDrawn w s (begun_of r) New
   begins (Ok begun) led = record {
     tiles = led.step.tiles;
@@ -42,11 +42,11 @@ module _ (w : Which) (s : StateIn (kind_of w)) (x : ℕ) (New : StateIn (kind_of
     now = subst New led.step.next led.now;
   }
   begins (Err publish.Halted) led =
-      absurd (none_there (kind_of w).Dropped (subst (λ (o : Option
-      (kind_of w).Dropped). IsSome o) running led.step.0))
+      absurd (none_there (store_kind w).Dropped (subst (λ (o : Option
+      (store_kind w).Dropped). IsSome o) running led.step.0))
   begins (Err publish.Busy) led =
-      absurd (none_there (GoingIn (kind_of w)) (subst (λ (o : Option (GoingIn
-      (kind_of w))). IsSome o) idle led.step.0.busy))
+      absurd (none_there (GoingIn (store_kind w)) (subst (λ (o : Option (GoingIn
+      (store_kind w))). IsSome o) idle led.step.0.busy))
   begins (Err publish.Nothing) led = absurd (some_drawn x s.pending drawn led.step.1)
   begins (Err (publish.Large count)) led =
       let most : count ≤ 3600 = drawn_fits.load x s.pending count drawn led.step.1 in let large : 16384 < count =
@@ -56,5 +56,5 @@ module _ (w : Which) (s : StateIn (kind_of w)) (x : ℕ) (New : StateIn (kind_of
   begins (Err publish.Memory) led = subst New led.step.1 led.now
 
   pub begins_by : (r : Result Begun PublishError) (said : Result Unit PopulateError) → said ≡ begun_of r
-      → Leads (BeginsIn (kind_of w) s (publish_answer r)) New → BeginsDrawn w s said New
+      → Leads (PublishLineIn (store_kind w) s (publish_answer r)) New → BeginsDrawn w s said New
   begins_by r said e led = subst (λ a. BeginsDrawn w s a New) (sym e) (begins r led)

@@ -2,7 +2,7 @@
 use Rattle.std.proofs.Common.{◌≡◌, ℕ, zero, suc, ◌+◌, ◌*◌, ◌<◌, ℤ, pos, negsuc, ◌+ℤ◌, ◌≤ℤ◌, List, [], ◌∷◌, ◌++◌, length, Ok, Err, refl, sym, ◌∙◌, ap, subst, arith}
 use Rattle.std.proofs.lemmas.Int.{ints}
 use Rattle.cdb_model.specs.Publications.{Publication, sources_of, Touches}
-use Rattle.cdb_model.specs.Stores.{Which, known, any, kind_of, any_store, known_store}
+use Rattle.cdb_model.specs.Stores.{Which, known, any, store_kind, any_store, known_store}
 use Rattle.cdb_model.specs.Transitions.{StateIn}
 use Rattle.cdb_files.specs.Disk as disk
 use Rattle.cdb_model.specs.Maps.{FileMap}
@@ -10,11 +10,11 @@ use Rattle.cdb_engine.specs.Held.{Held}
 use Rattle.cdb_engine.specs.Stays.{Stays, bare_of}
 use Rattle.cdb_engine.specs.Tracks.{Origin, Leads}
 use Rattle.cdb_generate.specs.Generator.{passed, state_next, PublicationDrawn}
-use Rattle.cdb_generate.specs.Generated.{Sofar}
+use Rattle.cdb_generate.specs.Generated.{GeneratedSoFar}
 use Rattle.cdb_generate.specs.Sums.{tiles_sum}
 use Rattle.cdb_generate.proofs.ListLaws.{in_order}
-use Rattle.cdb_engine.specs.Filling.{Follow, AreMade, StopsAfter}
-use Rattle.cdb_engine.specs.Populating.{IsAtRest, IsNext, Completes, PublishesIn}
+use Rattle.cdb_engine.specs.Filling.{ComeAfter, AreMade, StopsAfter}
+use Rattle.cdb_engine.specs.Populating.{IsAtRest, IsDrawnNext, IsWholePublication, PublishesIn}
 use Rattle.cdb_engine.specs.declared.errors.PopulateError.{PopulateError}
 use Rattle.cdb_engine.specs.declared.drawn_publication.Published.{Published}
 
@@ -26,42 +26,42 @@ pub passed_more : (n x : ℕ) → passed (n + 1) x ≡ state_next (passed n x)
 passed_more n x = let e : n + 1 ≡ suc n = omega arith in ap (λ (m : ℕ). passed m x) e ∙ passed_suc n x
 
 -- before the first
-pub none_made : (w : Which) (s : StateIn (kind_of w)) (start : ℕ) (New : StateIn (kind_of w) → Type 0)
-    → IsAtRest (kind_of w) s → New s → Leads (AreMade w s start 0 0 (pos 0)) New
+pub none_made : (w : Which) (s : StateIn (store_kind w)) (start : ℕ) (New : StateIn (store_kind w) → Type 0)
+    → IsAtRest (store_kind w) s → New s → Leads (AreMade w s start 0 0 (pos 0)) New
 none_made w s start New rest now =
     record { next = s; step = record { follow = none w s; at_rest = rest }; now = now }
   where
-    none : (w : Which) (s : StateIn (kind_of w)) → Follow w s.list start 0 0 (pos 0) s.list
+    none : (w : Which) (s : StateIn (store_kind w)) → ComeAfter w s.list start 0 0 (pos 0) s.list
     none known s = in_order.begins s.list start
     none any s = (omega arith, omega arith)
 
 -- the next one, of a store that is known
 pub next_sofar : (from : List Publication) (start done files : ℕ) (sum : ℤ) (mid : StateIn known_store)
-    → Sofar from start (passed done start) done files sum mid.list → (next : IsNext known mid (passed done start))
-    → Sofar from start (passed (done + 1) start) (done + 1) (files + length next.tiles)
+    → GeneratedSoFar from start (passed done start) done files sum mid.list → (next : IsDrawnNext known mid (passed done start))
+    → GeneratedSoFar from start (passed (done + 1) start) (done + 1) (files + length next.tiles)
     (sum +ℤ tiles_sum (sources_of (mid.list ++ next.planned ∷ [])) next.tiles) (mid.list ++ next.planned ∷ [])
 next_sofar from start done files sum mid sofar next =
     let drawn : PublicationDrawn (passed done start) next.planned =
     subst (λ (p : Publication). PublicationDrawn (passed done start) p) (sym next.starts.0) next.drawn in
     let touched = subst (λ (p : Publication). Touches p next.tiles) (sym next.starts.0) next.touched in
-    subst (λ (state : ℕ). Sofar from start state (done + 1) (files + length next.tiles)
+    subst (λ (state : ℕ). GeneratedSoFar from start state (done + 1) (files + length next.tiles)
     (sum +ℤ tiles_sum (sources_of (mid.list ++ next.planned ∷ [])) next.tiles) (mid.list ++ next.planned ∷ []))
     (sym (passed_more done start))
     (in_order.more from start (passed done start) done files sum mid.list next.planned next.tiles sofar drawn touched)
 
 -- one more is complete
-follow_more : (w : Which) (from : (kind_of w).Listed) (start done files : ℕ) (sum : ℤ) (mid new : StateIn (kind_of w))
-    (published : Published) → Follow w from start done files sum mid.list
-    → Completes w mid (passed done start) published new
-    → Follow w from start (done + 1) (files + published.files) (sum +ℤ published.sum) new.list
+follow_more : (w : Which) (from : (store_kind w).Listed) (start done files : ℕ) (sum : ℤ) (mid new : StateIn (store_kind w))
+    (published : Published) → ComeAfter w from start done files sum mid.list
+    → IsWholePublication w mid (passed done start) published new
+    → ComeAfter w from start (done + 1) (files + published.files) (sum +ℤ published.sum) new.list
 follow_more known from start done files sum mid new published follow c =
     let sum_is : published.sum ≡ tiles_sum (sources_of (mid.list ++ c.next.planned ∷ [])) c.next.tiles =
     c.sum_is ∙ ap (λ (l : List Publication). tiles_sum (sources_of l) c.next.tiles) c.list_is in
-    subst (λ (l : List Publication). Sofar from start (passed (done + 1) start) (done + 1) (files + published.files)
+    subst (λ (l : List Publication). GeneratedSoFar from start (passed (done + 1) start) (done + 1) (files + published.files)
     (sum +ℤ published.sum) l) (sym c.list_is)
-    (subst (λ (z : ℤ). Sofar from start (passed (done + 1) start) (done + 1) (files + published.files)
+    (subst (λ (z : ℤ). GeneratedSoFar from start (passed (done + 1) start) (done + 1) (files + published.files)
     (sum +ℤ z) (mid.list ++ c.next.planned ∷ [])) (sym sum_is)
-    (subst (λ (n : ℕ). Sofar from start (passed (done + 1) start) (done + 1) (files + n)
+    (subst (λ (n : ℕ). GeneratedSoFar from start (passed (done + 1) start) (done + 1) (files + n)
     (sum +ℤ tiles_sum (sources_of (mid.list ++ c.next.planned ∷ [])) c.next.tiles) (mid.list ++ c.next.planned ∷ []))
     (sym c.files_are) (next_sofar from start done files sum mid follow c.next)))
 follow_more any from start done files sum mid new published follow c =
@@ -75,8 +75,8 @@ follow_more any from start done files sum mid new published follow c =
     let counted : mid.list.entries ≡ from.entries + files = follow.1 in
     (omega (arith, versions, before), omega (arith, entries, planned, files_are, counted))
 
-module _ (w : Which) (s : StateIn (kind_of w)) (start done files : ℕ) (sum : ℤ)
-    (Old New : StateIn (kind_of w) → Type 0) (made : Leads (AreMade w s start done files sum) Old) where
+module _ (w : Which) (s : StateIn (store_kind w)) (start done files : ℕ) (sum : ℤ)
+    (Old New : StateIn (store_kind w) → Type 0) (made : Leads (AreMade w s start done files sum) Old) where
   pub one_more_made : (published : Published)
       → Leads (PublishesIn w made.next (passed done start) (Ok published)) New
       → Leads (AreMade w s start (done + 1) (files + published.files) (sum +ℤ published.sum)) New

@@ -3,11 +3,11 @@ use Rattle.std.proofs.Common.{◌≡◌, inl, inr, ℕ, ◌+◌, ◌≤◌, ◌<
 use Rattle.std.proofs.lemmas.List.{append-nil, append_assoc, append_cancel_left, length-append}
 use Rattle.cdb_model.specs.Begun.{HasBegun, begun_by, unfinished}
 use Rattle.cdb_model.specs.Images.{Base, StandsSince}
-use Rattle.cdb_model.specs.KnownStore.{State, Going, start_at}
+use Rattle.cdb_model.specs.KnownStore.{KnownState, Going, start_at}
 use Rattle.cdb_model.specs.Maps.{FileMap}
 use Rattle.cdb_model.specs.Publications.{Publication, IsEntryCount}
 use Rattle.cdb_model.specs.Stands.{Stands}
-use Rattle.cdb_model.specs.Stores.{Which, known, kind_of, known_store}
+use Rattle.cdb_model.specs.Stores.{Which, known, store_kind, known_store}
 use Rattle.cdb_model.specs.Transitions.{StateIn}
 use Rattle.cdb_crash.specs.Crash.{IsClean}
 use Rattle.cdb_files.specs.Disk as disk
@@ -18,10 +18,10 @@ use Rattle.cdb_engine.specs.Held.{Held}
 use Rattle.cdb_engine.specs.Stays.{Stays}
 use Rattle.cdb_engine.specs.Tracks.{Works, Leads}
 use Rattle.cdb_generate.specs.Generator.{passed, AreDrawn}
-use Rattle.cdb_generate.specs.Generated.{Sofar, Generates}
+use Rattle.cdb_generate.specs.Generated.{GeneratedSoFar, Generates}
 use Rattle.cdb_generate.specs.Sums.{IsSum}
 use Rattle.cdb_generate.proofs.ListLaws.{in_order}
-use Rattle.cdb_engine.specs.Filling.{AreMade, StopsAfter, PopulatesIn, IsFilled, IsUndamaged, Populates}
+use Rattle.cdb_engine.specs.Filling.{AreMade, StopsAfter, PopulatesIn, FillsWith, IsUndamaged, Populates}
 use Rattle.cdb_engine.specs.Populating.{IsAtRest, CameTo, not_begun, given_up, complete, HasPending, StopsBy}
 use Rattle.cdb_engine.specs.declared.errors.PopulateError.{PopulateError}
 use Rattle.cdb_engine.specs.declared.errors.PopulateError.TheVariants.{Memory, Fault, Entries, Versions, Damaged}
@@ -34,27 +34,27 @@ record AreBegun (from : List Publication) (start count : ℕ) (all : List Public
   few : done ≤ count
   files : ℕ
   sum : ℤ
-  sofar : Sofar from start (passed done start) done files sum all
+  sofar : GeneratedSoFar from start (passed done start) done files sum all
 
 are_begun : (from : List Publication) (start count done files : ℕ) (sum : ℤ) (list all : List Publication)
-    → done ≤ count → all ≡ list → Sofar from start (passed done start) done files sum list
+    → done ≤ count → all ≡ list → GeneratedSoFar from start (passed done start) done files sum list
     → AreBegun from start count all
 are_begun from start count done files sum list all few e sofar = record {
   done = done;
   few = few;
   files = files;
   sum = sum;
-  sofar = subst (λ (l : List Publication). Sofar from start (passed done start) done files sum l) (sym e) sofar;
+  sofar = subst (λ (l : List Publication). GeneratedSoFar from start (passed done start) done files sum l) (sym e) sofar;
 }
 
 -- a state in which none is going or given up knows of those that are complete
-all_complete : (s : State) (list : List Publication) → s.list ≡ list → s.going ≡ None → s.halted ≡ None
+all_complete : (s : KnownState) (list : List Publication) → s.list ≡ list → s.going ≡ None → s.halted ≡ None
     → begun_by s ≡ list
 all_complete s list e going halted = (λ i. e i ++ unfinished (going i) (halted i)) ∙ append-nil list
 
-module _ (from : List Publication) (start count done files : ℕ) (sum : ℤ) (mid : State)
-    (sofar : Sofar from start (passed done start) done files sum mid.list) (fewer : done < count) where
-  came_to : (new : State) → CameTo known mid (passed done start) new → AreBegun from start count (begun_by new)
+module _ (from : List Publication) (start count done files : ℕ) (sum : ℤ) (mid : KnownState)
+    (sofar : GeneratedSoFar from start (passed done start) done files sum mid.list) (fewer : done < count) where
+  came_to : (new : KnownState) → CameTo known mid (passed done start) new → AreBegun from start count (begun_by new)
   came_to new (not_begun list_is going halted) =
       are_begun from start count done files sum mid.list (begun_by new) (omega (arith, fewer))
       (all_complete new mid.list list_is going halted) sofar
@@ -66,13 +66,13 @@ module _ (from : List Publication) (start count done files : ℕ) (sum : ℤ) (m
       (all_complete new (mid.list ++ next.planned ∷ []) list_is going halted)
       (next_sofar from start done files sum mid sofar next)
 
-  has_pending : (new : State) → IsAtRest known_store mid → HasPending known mid (passed done start) new
+  has_pending : (new : KnownState) → IsAtRest known_store mid → HasPending known mid (passed done start) new
       → AreBegun from start count (begun_by new)
   has_pending new rest pending =
       are_begun from start count done files sum mid.list (begun_by new) (omega (arith, fewer))
       (ap begun_by pending.state ∙ all_complete mid mid.list refl rest.going rest.halted) sofar
 
-  stopped : (error : PopulateError) (new : State) → IsAtRest known_store mid
+  stopped : (error : PopulateError) (new : KnownState) → IsAtRest known_store mid
       → StopsBy known mid (passed done start) error new → AreBegun from start count (begun_by new)
   stopped Memory new rest stops = came_to new stops
   stopped Fault new rest stops = came_to new stops
@@ -80,7 +80,7 @@ module _ (from : List Publication) (start count done files : ℕ) (sum : ℤ) (m
   stopped Versions new rest stops = has_pending new rest stops.0
   stopped (Damaged expected found) new rest stops = absurd stops
 
-undamaged : (mid new : State) (x : ℕ) (error : PopulateError) → StopsBy known mid x error new → IsUndamaged error
+undamaged : (mid new : KnownState) (x : ℕ) (error : PopulateError) → StopsBy known mid x error new → IsUndamaged error
 undamaged mid new x Memory stops = tt
 undamaged mid new x Fault stops = tt
 undamaged mid new x (Entries n) stops = tt
@@ -90,7 +90,7 @@ undamaged mid new x (Damaged expected found) stops = stops
 -- ---- the publications begun
 
 -- they are the ones that come after the list
-same_begun : (from begun made : List Publication) (s : State) → HasBegun from s begun → begun_by s ≡ from ++ made
+same_begun : (from begun made : List Publication) (s : KnownState) → HasBegun from s begun → begun_by s ≡ from ++ made
     → begun ≡ made
 same_begun from begun made s has e =
     let unf : List Publication = unfinished s.going s.halted in
@@ -99,7 +99,7 @@ same_begun from begun made s has e =
     ∙ sym (append_assoc from has.complete unf)
     ∙ ap (λ (l : List Publication). l ++ unf) (sym has.list_is) ∙ e)
 
-generates : (base : Base) (start count : ℕ) (Since : FileMap → Type 0) (begun : List Publication) (s : State)
+generates : (base : Base) (start count : ℕ) (Since : FileMap → Type 0) (begun : List Publication) (s : KnownState)
     → HasBegun base.list s begun → AreBegun base.list start count (begun_by s)
     → ((m : FileMap) → Since m → StandsSince base begun m) → Generates base start count Since begun
 generates base start count Since begun s has are since =
@@ -124,11 +124,11 @@ clean list None None (Some work) (Some faults) chain d idle running works = absu
 clean list None (Some x) work halted chain d idle running works = let e : Some x ≡ None = running in absurd (cc)
 clean list (Some now) given work halted chain d idle running works = let e : Some now ≡ None = idle in absurd (cc)
 
-filled : (base : Base) (start count : ℕ) (Left : FileMap → Type 0) (begun : List Publication) (s : State) (made : Made)
+filled : (base : Base) (start count : ℕ) (Left : FileMap → Type 0) (begun : List Publication) (s : KnownState) (made : Made)
     → HasBegun base.list s begun → AreMade known (start_at base.list) start count made.files made.sum s
-    → made.versions ≡ length s.list → ((m : FileMap) → Left m → Stands m s.list) → IsFilled base count Left begun made
+    → made.versions ≡ length s.list → ((m : FileMap) → Left m → Stands m s.list) → FillsWith base count Left begun made
 filled base start count Left begun s made has are versions left =
-    let sofar : Sofar base.list start (passed count start) count made.files made.sum s.list = are.follow in
+    let sofar : GeneratedSoFar base.list start (passed count start) count made.files made.sum s.list = are.follow in
     let list = sofar.made in
     let all : begun_by s ≡ base.list ++ list =
     all_complete s (base.list ++ list) sofar.list_is are.at_rest.going are.at_rest.halted in
@@ -155,7 +155,7 @@ module _ {D : Type 0} (tells : Type 0) (clock count : D → ℕ) (since : D → 
       → Populates base start most (since d base.moment) (IsImage (state d)) result
   populates (Ok made) led =
       let f = led.now.is in
-      let s : State = led.next in
+      let s : KnownState = led.next in
       let are = led.step.0 in
       record {
         begun = f.begun;
@@ -192,7 +192,7 @@ at_start list = record { pending = refl; going = refl; halted = refl; sessions =
 
 -- ---- what is told of them
 
-module _ (w : Which) (s : StateIn (kind_of w)) (start count : ℕ) (New : StateIn (kind_of w) → Type 0) where
+module _ (w : Which) (s : StateIn (store_kind w)) (start count : ℕ) (New : StateIn (store_kind w) → Type 0) where
   pub none_begun : New s → Leads (PopulatesIn w s start count (Err Memory)) New
   none_begun now = record { next = s; step = inl (refl, refl); now = now }
 
@@ -201,7 +201,7 @@ module _ (w : Which) (s : StateIn (kind_of w)) (start count : ℕ) (New : StateI
   some_begun error led = record { next = led.next; step = inr led.step; now = led.now }
 
   pub all_begun : (made : Made) (sum : ℤ) → made.sum ≡ sum
-      → ((new : StateIn (kind_of w)) → New new → made.versions ≡ (kind_of w).versions new.list)
+      → ((new : StateIn (store_kind w)) → New new → made.versions ≡ (store_kind w).versions new.list)
       → Leads (AreMade w s start count made.files sum) New → Leads (PopulatesIn w s start count (Ok made)) New
   all_begun made sum e newest led = record {
     next = led.next;

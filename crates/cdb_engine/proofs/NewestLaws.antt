@@ -5,18 +5,18 @@ use Rattle.std.proofs.Math.Seq.{take-length}
 use Rattle.cdb_grid.specs.declared.tile.Tile.{Tile}
 use Rattle.cdb_source.specs.Reached.{Reached}
 use Rattle.cdb_source.specs.declared.source.Source.{Source}
-use Rattle.cdb_model.specs.KnownStore.{State}
+use Rattle.cdb_model.specs.KnownStore.{KnownState}
 use Rattle.cdb_model.specs.Publications.{Publication, sources_of, sources_up_to, heads_of}
 use Rattle.cdb_model.specs.Sessions.{session_of, without}
-use Rattle.cdb_model.specs.Stores.{Kind, Which, known, any, kind_of}
-use Rattle.cdb_model.specs.Transitions.{StateIn, OpenedIn, ConnectsIn, DisconnectsIn}
+use Rattle.cdb_model.specs.Stores.{Kind, Which, known, any, store_kind}
+use Rattle.cdb_model.specs.Transitions.{StateIn, OpenedIn, OpenLineIn, CloseLineIn}
 use Rattle.cdb_model.specs.declared.session.Session.{Session}
 use Rattle.cdb_sessions.specs.declared.errors.Unknown.{Unknown}
 use Rattle.cdb_engine.specs.StoreAnswers.{session_answer, close_answer}
 use Rattle.cdb_engine.specs.Tracks.{Leads}
 use Rattle.cdb_sessions.specs.declared.errors.SessionError.{SessionError}
 use Rattle.cdb_sessions.specs.declared.errors.SessionError.TheVariants as session_error
-use Rattle.cdb_engine.specs.Populating.{Asks, IsAtRest, IsOpenAt, LeadsAfter, LeadsToRest, Sums}
+use Rattle.cdb_engine.specs.Populating.{LeavesState, IsAtRest, IsOpenAt, LeadsAfter, LeadsToRest, Sums}
 use Rattle.cdb_engine.specs.declared.errors.PopulateError.{PopulateError}
 use Rattle.cdb_engine.specs.declared.errors.PopulateError.TheVariants.{Memory, Fault, Entries, Versions, Damaged}
 
@@ -45,7 +45,7 @@ module _ (k : Kind) (s next : StateIn k) (id version : ℕ) (at : IsAtRest k s)
 
   -- and it is closed
   pub closed : (r : Result Unit Unknown) (New : StateIn k → Type 0)
-      → Leads (DisconnectsIn k next id (close_answer r)) New → LeadsToRest k s.list New
+      → Leads (CloseLineIn k next id (close_answer r)) New → LeadsToRest k s.list New
   closed (Ok _) New led =
       let e = led.step.1 in record {
         next = led.next;
@@ -79,7 +79,7 @@ module _ (k : Kind) (s next : StateIn k) (id version : ℕ) (at : IsAtRest k s)
 
 -- no session was opened
 pub refused : (k : Kind) (s : StateIn k) (e : SessionError) (New : StateIn k → Type 0) → IsAtRest k s
-    → Leads (ConnectsIn k s (session_answer (Err e))) New → LeadsAfter k s.list New
+    → Leads (OpenLineIn k s (session_answer (Err e))) New → LeadsAfter k s.list New
 refused k s session_error.Many New at led = record {
   next = s;
   after = record { list_is = refl; pending = at.pending; going = at.going; halted = at.halted };
@@ -91,21 +91,21 @@ refused k s session_error.Memory New at led = record {
   now = subst New led.step.1 led.now;
 }
 
-maybe_after : (w : Which) (X Y : Type 0) → (X → Y) → (kind_of w).Maybe X → (kind_of w).Maybe Y
+maybe_after : (w : Which) (X Y : Type 0) → (X → Y) → (store_kind w).Maybe X → (store_kind w).Maybe Y
 maybe_after known X Y f never = never
 maybe_after any X Y f x = f x
 
 -- a tile couldn't be read
-pub unread : (w : Which) (s next : StateIn (kind_of w)) (id version : ℕ) (at : IsAtRest (kind_of w) s)
-    (opened : OpenedIn (kind_of w) s id version next) (e : PopulateError) (New : StateIn (kind_of w) → Type 0)
-    → Asks {T = ℤ} w (Err e) (New next) → Sums w s.list (Err e) New
+pub unread : (w : Which) (s next : StateIn (store_kind w)) (id version : ℕ) (at : IsAtRest (store_kind w) s)
+    (opened : OpenedIn (store_kind w) s id version next) (e : PopulateError) (New : StateIn (store_kind w) → Type 0)
+    → LeavesState {T = ℤ} w (Err e) (New next) → Sums w s.list (Err e) New
 unread w s next id version at opened Memory New never = absurd never
-unread w s next id version at opened Fault New now = after (kind_of w) s next id version at opened New now
+unread w s next id version at opened Fault New now = after (store_kind w) s next id version at opened New now
 unread w s next id version at opened (Entries count) New never = never
 unread w s next id version at opened Versions New never = never
 unread w s next id version at opened (Damaged expected found) New maybe =
-    maybe_after w (New next) (LeadsAfter (kind_of w) s.list New) (after
-    (kind_of w) s next id version at opened New) maybe
+    maybe_after w (New next) (LeadsAfter (store_kind w) s.list New) (after
+    (store_kind w) s next id version at opened New) maybe
 
 -- the newest version has all sources
 pub all_sources : (list : List Publication) (version : ℕ) → version ≡ length list
@@ -113,16 +113,16 @@ pub all_sources : (list : List Publication) (version : ℕ) → version ≡ leng
 all_sources list version e = ap (λ n. sources_of (take n list)) e ∙ ap sources_of (take-length list)
 
 -- a session of it
-pub open_at_newest : (s next : State) (id version : ℕ) (tiles : List Tile) → IsAtRest (kind_of known) s
-    → OpenedIn (kind_of known) s id version next
+pub open_at_newest : (s next : KnownState) (id version : ℕ) (tiles : List Tile) → IsAtRest (store_kind known) s
+    → OpenedIn (store_kind known) s id version next
     → All (λ t. Reached (heads_of (sources_of s.list)) t) tiles → IsOpenAt next id version tiles
 open_at_newest s next id version tiles at opened reached =
-    let list : next.list ≡ s.list = ap (λ (n : State). n.list) opened.next in
+    let list : next.list ≡ s.list = ap (λ (n : KnownState). n.list) opened.next in
     let e : sources_up_to version next.list ≡ sources_of s.list = ap (sources_up_to version) list
     ∙ all_sources s.list version opened.version_is in
     record {
       session = one id version;
-      is_open = is_open (kind_of known) s next id version at opened;
+      is_open = is_open (store_kind known) s next id version at opened;
       version_is = refl;
       reached = subst (λ (ss : List Source). All (λ t. Reached (heads_of ss) t) tiles) (sym e) reached;
     }

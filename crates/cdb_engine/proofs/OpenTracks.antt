@@ -23,7 +23,7 @@ use Rattle.cdb_recover.specs.declared.recover_error.RecoverError.TheVariants as 
 use Rattle.cdb_sessions.specs.Sessions.{Sessions, starts_empty}
 use Rattle.cdb_engine.specs.Held.{held_of, IsEngine}
 use Rattle.cdb_engine.specs.Stays.{bare_of}
-use Rattle.cdb_engine.specs.Store.{IsStore, IsNoStore, TellsNoStore, IsFound, open_error_of}
+use Rattle.cdb_engine.specs.Store.{IsStore, IsNoStore, TellsNoStore, IsStoreFound, open_error_of}
 use Rattle.cdb_engine.specs.Tracks.{Tracks}
 use Rattle.cdb_engine.proofs.StepTracks.{adds_map}
 
@@ -94,7 +94,7 @@ opened_engine chain pending nothing = record { can_step = tt; few = (let z : len
 
 -- ---- errors
 
-pub opens_found : (list : List Publication) (error : OpenError) → OpensTo list (Err error) → IsFound error
+pub opens_found : (list : List Publication) (error : OpenError) → OpensTo list (Err error) → IsStoreFound error
 opens_found list Memory h = tt
 opens_found list Fault h = tt
 opens_found list (NotAStore version place) h = h
@@ -115,5 +115,5 @@ pub recovery_refuses : (T : Type 0) (tells : Type 0) (present : FileMap) (error 
 recovery_refuses T tells present recovery.Fault answer = tt
 recovery_refuses T tells present (recovery.NotAStore version place) answer = λ told. IsNoStore.unrecovered (answer told)
 
-pub recovery_found : (error : RecoverError) → error ≡ recovery.Fault → IsFound (open_error_of error)
-recovery_found error is = subst (λ (e : RecoverError). IsFound (open_error_of e)) (sym is) tt
+pub recovery_found : (error : RecoverError) → error ≡ recovery.Fault → IsStoreFound (open_error_of error)
+recovery_found error is = subst (λ (e : RecoverError). IsStoreFound (open_error_of e)) (sym is) tt

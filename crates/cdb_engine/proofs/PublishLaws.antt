@@ -8,9 +8,9 @@ use Rattle.std.proofs.lemmas.List.Elements.{Contains-get_or}
 use Rattle.cdb_grid.specs.declared.tile.Tile.{Tile}
 use Rattle.cdb_source.specs.Reached.{Reached, IsTouched}
 use Rattle.cdb_source.specs.declared.source.Source.{Source}
-use Rattle.cdb_model.specs.KnownStore.{State}
+use Rattle.cdb_model.specs.KnownStore.{KnownState}
 use Rattle.cdb_model.specs.Publications.{Publication, sources_in, sources_of, heads_of}
-use Rattle.cdb_model.specs.Stores.{Which, known, any, kind_of}
+use Rattle.cdb_model.specs.Stores.{Which, known, any, store_kind}
 use Rattle.cdb_model.specs.Transitions.{StateIn}
 use Rattle.cdb_engine.specs.Held.{Held}
 use Rattle.cdb_model.specs.Maps.{FileMap}
@@ -20,7 +20,7 @@ use Rattle.cdb_engine.specs.Tracks.{Origin, Leads}
 use Rattle.cdb_engine.proofs.StayLaws.{stays_shows, stays_alike}
 use Rattle.cdb_generate.specs.Generator.{PublicationDrawn}
 use Rattle.cdb_generate.specs.Sums.{tiles_sum}
-use Rattle.cdb_engine.specs.Populating.{IsAtRest, IsNext, IsSumAt, CameTo, not_begun, given_up, complete, PublishesIn, IsGoingOf, BeginsDrawn, Finishes, LeadsAfter, Sums}
+use Rattle.cdb_engine.specs.Populating.{IsAtRest, IsDrawnNext, IsSumAt, CameTo, not_begun, given_up, complete, PublishesIn, IsGoingOf, BeginsDrawn, FinishesSteps, LeadsAfter, Sums}
 use Rattle.cdb_engine.specs.declared.errors.PopulateError.{PopulateError}
 use Rattle.cdb_engine.specs.declared.errors.PopulateError.TheVariants.{Memory, Fault, Entries, Versions, Damaged}
 use Rattle.cdb_engine.specs.declared.drawn_publication.Published.{Published}
@@ -30,7 +30,7 @@ none_mapped A B f None e = refl
 none_mapped A B f (Some x) e = let n : Some (f x) ≡ None = e in absurd (cc)
 
 -- sources that were handed to an engine changed nothing but what is pending
-pub pending_only : (old new : Held) (w : Which) (s : StateIn (kind_of w)) → Shows old w s
+pub pending_only : (old new : Held) (w : Which) (s : StateIn (store_kind w)) → Shows old w s
     → new ≡ record old { pending = new.pending }
     → ChangesAlike old new w s (record s { pending = new.pending })
 pending_only old new w s shows e = record {
@@ -44,7 +44,7 @@ pending_only old new w s shows e = record {
       ∙ ap (λ (h : Held). record s { pending = new.pending; sessions = h.sessions; opened = h.opened }) (sym e);
 }
 
-pub all_pending : (old new : Held) (w : Which) (s : StateIn (kind_of w)) (sources : List Source) → Shows old w s
+pub all_pending : (old new : Held) (w : Which) (s : StateIn (store_kind w)) (sources : List Source) → Shows old w s
     → s.pending ≡ []
     → new ≡ record old { pending = old.pending ++ sources }
     → record s { pending = new.pending } ≡ record s { pending = sources }
@@ -55,13 +55,13 @@ all_pending old new w s sources shows none e =
 -- so an engine stays with a state that has them pending
 pub pending_here : {D : Type 0} (tells : Type 0) (clock count : D → ℕ) (since : D → ℕ → FileMap
     → Type 0) (state : D → disk.State) (origin : Origin) (d : D)
-    (old new : Held) (w : Which) (s : StateIn (kind_of w)) (sources : List Source)
+    (old new : Held) (w : Which) (s : StateIn (store_kind w)) (sources : List Source)
     → Stays tells clock count since state origin d old w s → s.pending ≡ [] → new ≡ record old { pending = new.pending }
     → new ≡ record old { pending = old.pending ++ sources }
     → Stays tells clock count since state origin d new w (record s { pending = sources })
 pending_here tells clock count since state origin d old new w s sources stays none same next =
     let shows = stays_shows tells clock count since state origin d old w s stays in
-    subst (λ (t : StateIn (kind_of w)). Stays tells clock count since state origin d new w t)
+    subst (λ (t : StateIn (store_kind w)). Stays tells clock count since state origin d new w t)
     (all_pending old new w s sources shows none next)
     (stays_alike tells clock count since state origin d old new w s (record s {
       pending =
@@ -87,14 +87,14 @@ newest_sources : (list : List Publication) (p : Publication)
 newest_sources list p = flat_map-append sources_in list (p ∷ [])
     ∙ ap (λ (l : List Source). sources_of list ++ l) (append-nil (sources_in p))
 
-abbrev pub ReachedAt : (w : Which) → (kind_of w).Listed → List Tile → Type 0
+abbrev pub ReachedAt : (w : Which) → (store_kind w).Listed → List Tile → Type 0
 ReachedAt known list tiles = All (λ t. Reached (heads_of (sources_of list)) t) tiles
 ReachedAt any list tiles = Unit {0}
 
-pub reached_at : (w : Which) (list : (kind_of w).Listed) (sources : List Source) (given tiles : List Tile)
-    (planned : (kind_of w).Planned) (left : ℕ)
-    → (kind_of w).Starts list sources given planned left → IsTouched (heads_of sources) tiles
-    → ReachedAt w ((kind_of w).add list planned) tiles
+pub reached_at : (w : Which) (list : (store_kind w).Listed) (sources : List Source) (given tiles : List Tile)
+    (planned : (store_kind w).Planned) (left : ℕ)
+    → (store_kind w).Starts list sources given planned left → IsTouched (heads_of sources) tiles
+    → ReachedAt w ((store_kind w).add list planned) tiles
 reached_at known list sources given tiles planned left starts touched = λ i d lt.
     let r : Reached (heads_of sources) (get_or tiles i d) =
     (touched.exact (get_or tiles i d)).0 (Contains-get_or tiles i d lt) in
@@ -103,10 +103,10 @@ reached_at known list sources given tiles planned left starts touched = λ i d l
     (later_reached (sources_of list) sources (get_or tiles i d) r))
 reached_at any list sources given tiles planned left starts touched = tt
 
-pub sum_at : (w : Which) (s : StateIn (kind_of w)) (tiles : List Tile) (sum : ℤ) (Now : (v : Which)
-    → StateIn (kind_of v) → Type 0)
-    → Now w s → IsAtRest (kind_of w) s → ReachedAt w s.list tiles
-    → ((t : State) → Now known t → IsAtRest (kind_of known) t
+pub sum_at : (w : Which) (s : StateIn (store_kind w)) (tiles : List Tile) (sum : ℤ) (Now : (v : Which)
+    → StateIn (store_kind v) → Type 0)
+    → Now w s → IsAtRest (store_kind w) s → ReachedAt w s.list tiles
+    → ((t : KnownState) → Now known t → IsAtRest (store_kind known) t
     → All (λ u. Reached (heads_of (sources_of t.list)) u) tiles → sum ≡ tiles_sum (sources_of t.list) tiles)
     → IsSumAt w s.list tiles sum
 sum_at known s tiles sum Now now rest reached f = f s now rest reached
@@ -114,23 +114,23 @@ sum_at any s tiles sum Now now rest reached f = tt
 
 -- ---- what a damaged file leads to
 
-maybe_leads : (w : Which) (s next : StateIn (kind_of w)) (x : ℕ) (New : StateIn (kind_of w) → Type 0)
+maybe_leads : (w : Which) (s next : StateIn (store_kind w)) (x : ℕ) (New : StateIn (store_kind w) → Type 0)
     → CameTo w s x next
-    → (kind_of w).Maybe (New next) → Leads (λ n. (kind_of w).Maybe (CameTo w s x n)) New
+    → (store_kind w).Maybe (New next) → Leads (λ n. (store_kind w).Maybe (CameTo w s x n)) New
 maybe_leads known s next x New came never = absurd never
 maybe_leads any s next x New came now = record { next = next; step = came; now = now }
 
-maybe_after : (w : Which) (s : StateIn (kind_of w)) (list : (kind_of w).Listed) (x : ℕ) (New : StateIn
-    (kind_of w) → Type 0)
-    → (LeadsAfter (kind_of w) list New → Leads (CameTo w s x) New) → (kind_of w).Maybe (LeadsAfter (kind_of w) list New)
-    → Leads (λ n. (kind_of w).Maybe (CameTo w s x n)) New
+maybe_after : (w : Which) (s : StateIn (store_kind w)) (list : (store_kind w).Listed) (x : ℕ) (New : StateIn
+    (store_kind w) → Type 0)
+    → (LeadsAfter (store_kind w) list New → Leads (CameTo w s x) New) → (store_kind w).Maybe (LeadsAfter (store_kind w) list New)
+    → Leads (λ n. (store_kind w).Maybe (CameTo w s x n)) New
 maybe_after known s list x New f never = absurd never
 maybe_after any s list x New f led = let l = f led in record { next = l.next; step = l.step; now = l.now }
 
 -- ---- the exits
 
-module _ (w : Which) (s : StateIn (kind_of w)) (x : ℕ) (at : IsAtRest (kind_of w) s) where
-  pub not_yet : (e : PopulateError) (next : StateIn (kind_of w)) (New : StateIn (kind_of w) → Type 0)
+module _ (w : Which) (s : StateIn (store_kind w)) (x : ℕ) (at : IsAtRest (store_kind w) s) where
+  pub not_yet : (e : PopulateError) (next : StateIn (store_kind w)) (New : StateIn (store_kind w) → Type 0)
       → e ≡ Memory → next.list ≡ s.list
       → next.going ≡ None → next.halted ≡ None → New next → Leads (PublishesIn w s x (Err e)) New
   not_yet e next New is a b c now =
@@ -142,10 +142,10 @@ module _ (w : Which) (s : StateIn (kind_of w)) (x : ℕ) (at : IsAtRest (kind_of
       })
 
   module _ (sources : List Source) (drawn : PublicationDrawn x sources) where
-    abbrev pub submitted : StateIn (kind_of w)
+    abbrev pub submitted : StateIn (store_kind w)
     submitted = record s { pending = sources }
 
-    pub refused_begin : (e : PopulateError) (New : StateIn (kind_of w) → Type 0) → BeginsDrawn w submitted (Err e) New
+    pub refused_begin : (e : PopulateError) (New : StateIn (store_kind w) → Type 0) → BeginsDrawn w submitted (Err e) New
         → Leads (PublishesIn w s x (Err e)) New
     refused_begin Memory New now = record { next = submitted; step = not_begun refl at.going at.halted; now = now }
     refused_begin Fault New never = absurd never
@@ -179,8 +179,8 @@ module _ (w : Which) (s : StateIn (kind_of w)) (x : ℕ) (at : IsAtRest (kind_of
         }
     refused_begin (Damaged expected found) New never = absurd never
 
-    module _ (Mid : StateIn (kind_of w) → Type 0) (g : IsGoingOf w submitted Mid) where
-      abbrev pub next_one : IsNext w s x
+    module _ (Mid : StateIn (store_kind w) → Type 0) (g : IsGoingOf w submitted Mid) where
+      abbrev pub next_one : IsDrawnNext w s x
       next_one = record {
         sources = sources;
         drawn = drawn;
@@ -191,22 +191,22 @@ module _ (w : Which) (s : StateIn (kind_of w)) (x : ℕ) (at : IsAtRest (kind_of
         starts = g.starts;
       }
 
-      abbrev pub begun : StateIn (kind_of w)
+      abbrev pub begun : StateIn (store_kind w)
       begun = record submitted { pending = []; going = Some record { publication = g.planned; left = g.left } }
 
-      abbrev pub published : StateIn (kind_of w)
-      published = record begun { list = (kind_of w).add s.list g.planned; going = None }
+      abbrev pub published : StateIn (store_kind w)
+      published = record begun { list = (store_kind w).add s.list g.planned; going = None }
 
-      pub rests : IsAtRest (kind_of w) published
+      pub rests : IsAtRest (store_kind w) published
       rests = record { pending = refl; going = refl; halted = at.halted; sessions = at.sessions }
 
-      pub failed_finish : (e : PopulateError) (New : StateIn (kind_of w) → Type 0)
-          → Finishes w begun g.planned (Err e) New
+      pub failed_finish : (e : PopulateError) (New : StateIn (store_kind w) → Type 0)
+          → FinishesSteps w begun g.planned (Err e) New
           → Leads (PublishesIn w s x (Err e)) New
       failed_finish Memory New never = absurd never
       failed_finish Fault New now =
           record {
-            next = record begun { going = None; halted = Some ((kind_of w).drop g.planned) };
+            next = record begun { going = None; halted = Some ((store_kind w).drop g.planned) };
             step =
                 given_up next_one refl refl refl;
             now = now;
@@ -217,10 +217,10 @@ module _ (w : Which) (s : StateIn (kind_of w)) (x : ℕ) (at : IsAtRest (kind_of
           maybe_leads w s (record begun {
             going = None;
             halted =
-                Some ((kind_of w).drop g.planned);
+                Some ((store_kind w).drop g.planned);
           }) x New (given_up next_one refl refl refl) maybe
 
-      came : (New : StateIn (kind_of w) → Type 0) → LeadsAfter (kind_of w) published.list New → Leads (CameTo w s x) New
+      came : (New : StateIn (store_kind w) → Type 0) → LeadsAfter (store_kind w) published.list New → Leads (CameTo w s x) New
       came New led = record {
         next = led.next;
         step =
@@ -228,7 +228,7 @@ module _ (w : Which) (s : StateIn (kind_of w)) (x : ℕ) (at : IsAtRest (kind_of
         now = led.now;
       }
 
-      pub failed_sum : (e : PopulateError) (New : StateIn (kind_of w) → Type 0) → Sums w published.list (Err e) New
+      pub failed_sum : (e : PopulateError) (New : StateIn (store_kind w) → Type 0) → Sums w published.list (Err e) New
           → Leads (PublishesIn w s x (Err e)) New
       failed_sum Memory New led = came New led
       failed_sum Fault New led = came New led
@@ -236,7 +236,7 @@ module _ (w : Which) (s : StateIn (kind_of w)) (x : ℕ) (at : IsAtRest (kind_of
       failed_sum Versions New never = absurd never
       failed_sum (Damaged expected found) New maybe = maybe_after w s published.list x New (came New) maybe
 
-      pub all_done : (made : Published) (New : StateIn (kind_of w) → Type 0) → Sums w published.list (Ok made.sum) New
+      pub all_done : (made : Published) (New : StateIn (store_kind w) → Type 0) → Sums w published.list (Ok made.sum) New
           → made.files ≡ length g.tiles → IsSumAt w published.list g.tiles made.sum
           → Leads (PublishesIn w s x (Ok made)) New
       all_done made New led files sum = record {
@@ -246,7 +246,7 @@ module _ (w : Which) (s : StateIn (kind_of w)) (x : ℕ) (at : IsAtRest (kind_of
           list_is = led.list_is;
           at_rest = led.at_rest;
           files_are = files;
-          sum_is = subst (λ (l : (kind_of w).Listed). IsSumAt w l g.tiles made.sum) (sym led.list_is) sum;
+          sum_is = subst (λ (l : (store_kind w).Listed). IsSumAt w l g.tiles made.sum) (sym led.list_is) sum;
         };
         now = led.now;
       }

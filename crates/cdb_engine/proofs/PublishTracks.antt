@@ -7,12 +7,12 @@ use Rattle.cdb_source.specs.declared.source.Source.{Source}
 use Rattle.cdb_model.specs.Begun.{unfinished}
 use Rattle.cdb_model.specs.Events as machine
 use Rattle.cdb_model.specs.Images.{Base, StandsSince}
-use Rattle.cdb_model.specs.KnownStore.{State, Going}
+use Rattle.cdb_model.specs.KnownStore.{KnownState, Going}
 use Rattle.cdb_model.specs.Maps.{FileMap}
 use Rattle.cdb_model.specs.Publications.{Publication, heads_of, step_count}
 use Rattle.cdb_model.specs.Stands.{Stands}
-use Rattle.cdb_model.specs.Stores.{Kind, Which, known, any, kind_of, known_store, any_store}
-use Rattle.cdb_model.specs.Transitions.{StateIn, IsIdleIn, IsPendingIn, IsPlannedIn, BegunIn, BeginsIn}
+use Rattle.cdb_model.specs.Stores.{Kind, Which, known, any, store_kind, known_store, any_store}
+use Rattle.cdb_model.specs.Transitions.{StateIn, IsIdleIn, IsPendingIn, IsPlannedIn, BegunIn, PublishLineIn}
 use Rattle.cdb_model.proofs.OneLists.{one_touched}
 use Rattle.cdb_files.specs.Disk as disk
 use Rattle.cdb_crash.specs.Crash.{IsClean}
@@ -21,7 +21,7 @@ use Rattle.cdb_chain.specs.Versions.{Versions}
 use Rattle.cdb_publish.specs.Entries.{entries_in}
 use Rattle.cdb_publish.specs.Fitting.{left_in, steps_before_head}
 use Rattle.cdb_publish.specs.Going.{Underway, IsBegun, left_of}
-use Rattle.cdb_publish.specs.Planning.{IsLight, MakesEntries, IsAccepted, Refuses}
+use Rattle.cdb_publish.specs.Planning.{IsLight, MakesEntries, IsAccepted, RefusesPlan}
 use Rattle.cdb_publish.specs.declared.errors.PlanError.{PlanError}
 use Rattle.cdb_publish.specs.declared.errors.PlanError.TheVariants as plan
 use Rattle.cdb_publish.specs.declared.publication.Publication as publish
@@ -47,7 +47,7 @@ works_room list _ _ _ _ chain chain' d none w = absurd w
 
 module _ {D : Type 0} (tells : Type 0) (clock count : D → ℕ) (since : D → ℕ → FileMap → Type 0) (state : D → disk.State) (origin : Origin) (d : D) (held : Held) (chain' : Versions)
     (none : held.work ≡ None) (same : chain'.records ≡ held.chain.records) where
-  pub follows_room : (s : State) → Follows tells origin (clock d) (count d) (since d) (state d) held s → Follows tells origin (clock d) (count d) (since d) (state d) (record held { chain = chain' }) s
+  pub follows_room : (s : KnownState) → Follows tells origin (clock d) (count d) (since d) (state d) held s → Follows tells origin (clock d) (count d) (since d) (state d) (record held { chain = chain' }) s
   follows_room s f = record {
     told = f.told;
     earlier = f.earlier;
@@ -66,13 +66,13 @@ module _ {D : Type 0} (tells : Type 0) (clock count : D → ℕ) (since : D → 
     halt = f.halt;
   }
 
-  pub stays_room : (w : Which) (s : StateIn (kind_of w)) → Stays tells clock count since state origin d held w s → Stays tells clock count since state origin d (record held { chain = chain' }) w s
+  pub stays_room : (w : Which) (s : StateIn (store_kind w)) → Stays tells clock count since state origin d held w s → Stays tells clock count since state origin d (record held { chain = chain' }) w s
   stays_room known s stays = record { is = follows_room s stays.is }
   stays_room any s stays = record {
     is = stays.is ∙ ap (λ (records : List Record). record (bare_of held) { list = record { versions = length records; entries = entries_in records } }) (sym same);
   }
 
-  stays_entries : (w : Which) (s : StateIn (kind_of w)) → Stays tells clock count since state origin d held w s → Kind.HasEntries (kind_of w) s.list (entries_in held.chain.records)
+  stays_entries : (w : Which) (s : StateIn (store_kind w)) → Stays tells clock count since state origin d held w s → Kind.HasEntries (store_kind w) s.list (entries_in held.chain.records)
   stays_entries known s stays = entries_are held.chain.records s.list stays.is.tracks.records
   stays_entries any s stays = subst (λ (t : StateIn any_store). Kind.HasEntries any_store t.list (entries_in held.chain.records)) (sym stays.is) refl
 
@@ -98,7 +98,7 @@ planned_in k s kept x count idle same some entries light makes =
     }
 
 refused_in : (k : Kind) (s : StateIn k) (kept : List Record) (x : List Source) → IsIdleIn k s → x ≡ s.pending → x ≢ [] → k.HasEntries s.list (entries_in kept) → length kept ≡ k.versions s.list
-    → (error : PlanError) → Refuses kept (heads_of x) error → BeginsIn k s (publish_refusal (refusal_of error)) s
+    → (error : PlanError) → RefusesPlan kept (heads_of x) error → PublishLineIn k s (publish_refusal (refusal_of error)) s
 refused_in k s kept x idle same some entries versions plan.Memory r = (pending_in k s x idle same some, refl)
 refused_in k s kept x idle same some entries versions (plan.Large load) r =
     (pending_in k s x idle same some, subst (λ h. IsLoad h load) (ap heads_of same) r.0, r.1, refl)
@@ -118,27 +118,27 @@ refused_in k s kept x idle same some entries versions plan.Versions r = (
 module _ {D : Type 0} (tells : Type 0) (clock count : D → ℕ) (since : D → ℕ → FileMap → Type 0) (state : D → disk.State) (origin : Origin) (d : D) (held : Held) (chain' : Versions)
     (running : held.halted ≡ None) (none : held.work ≡ None) (some : held.pending ≢ []) (same : chain'.records ≡ held.chain.records) where
   -- memory was refused
-  pub memory_then : (w : Which) (s : StateIn (kind_of w)) → Stays tells clock count since state origin d held w s
-      → Leads (BeginsIn (kind_of w) s machine.memory) (Stays tells clock count since state origin d (record held { chain = chain' }) w)
+  pub memory_then : (w : Which) (s : StateIn (store_kind w)) → Stays tells clock count since state origin d held w s
+      → Leads (PublishLineIn (store_kind w) s machine.memory) (Stays tells clock count since state origin d (record held { chain = chain' }) w)
   memory_then w s stays =
       let shows = stays_shows tells clock count since state origin d held w s stays in
       record {
         next = s;
-        step = (pending_in (kind_of w) s held.pending (idle_as held w s shows running none) shows.pending some, refl);
+        step = (pending_in (store_kind w) s held.pending (idle_as held w s shows running none) shows.pending some, refl);
         now = stays_room tells clock count since state origin d held chain' none same w s stays;
       }
 
   -- the plan was refused, and the sources came back
-  pub refused_then : (back : List Source) (error : PlanError) → back ≡ held.pending → Refuses chain'.records (heads_of held.pending) error → (w : Which) (s : StateIn (kind_of w))
+  pub refused_then : (back : List Source) (error : PlanError) → back ≡ held.pending → RefusesPlan chain'.records (heads_of held.pending) error → (w : Which) (s : StateIn (store_kind w))
       → Stays tells clock count since state origin d held w s
-      → Leads (BeginsIn (kind_of w) s (publish_refusal (refusal_of error))) (Stays tells clock count since state origin d (record held { chain = chain'; pending = back }) w)
+      → Leads (PublishLineIn (store_kind w) s (publish_refusal (refusal_of error))) (Stays tells clock count since state origin d (record held { chain = chain'; pending = back }) w)
   refused_then back error back_is refuses w s stays =
       let shows = stays_shows tells clock count since state origin d held w s stays in
       record {
         next = s;
-        step = refused_in (kind_of w) s held.chain.records held.pending (idle_as held w s shows running none) shows.pending some
+        step = refused_in (store_kind w) s held.chain.records held.pending (idle_as held w s shows running none) shows.pending some
             (stays_entries tells clock count since state origin d held chain' none same w s stays) shows.versions error
-            (subst (λ (kept : List Record). Refuses kept (heads_of held.pending) error) same refuses);
+            (subst (λ (kept : List Record). RefusesPlan kept (heads_of held.pending) error) same refuses);
         now = subst (λ (p : List Source). Stays tells clock count since state origin d (record held { chain = chain'; pending = p }) w s) (sym back_is)
             (stays_room tells clock count since state origin d held chain' none same w s stays);
       }
@@ -146,11 +146,11 @@ module _ {D : Type 0} (tells : Type 0) (clock count : D → ℕ) (since : D → 
 -- ---- a publication begins
 
 -- nothing is going, and the disk is clean
-pub record AtRest (s : State) (d : disk.State) : Type 0 where
+pub record AtRest (s : KnownState) (d : disk.State) : Type 0 where
   pub idle : IsIdleIn known_store s
   pub clean : IsClean Stands s.list d
 
-resting : (held : Held) (d : disk.State) (s : State) → held.work ≡ None → held.halted ≡ None → Tracks held d s → AtRest s d
+resting : (held : Held) (d : disk.State) (s : KnownState) → held.work ≡ None → held.halted ≡ None → Tracks held d s → AtRest s d
 resting held d s none running t =
     by s.going s.halted refl refl (subst (λ (h : Option ℕ). Works s.list s.going s.halted None h held.chain d) running
     (subst (λ (w : Option publish.Publication). Works s.list s.going s.halted w held.halted held.chain d) none t.works))
@@ -208,8 +208,8 @@ module _ {D : Type 0} (tells : Type 0) (clock count : D → ℕ) (since : D → 
     next = refl;
   }
 
-  known_begins : (origin : Origin) (s : State) → Follows tells origin (clock d) (count d) (since d) (state d) held s
-      → Leads (BeginsIn known_store s (machine.begun work.version work.files)) (Follows tells origin (clock d) (count d) (since d) (state d) (begun_with held work []))
+  known_begins : (origin : Origin) (s : KnownState) → Follows tells origin (clock d) (count d) (since d) (state d) held s
+      → Leads (PublishLineIn known_store s (machine.begun work.version work.files)) (Follows tells origin (clock d) (count d) (since d) (state d) (begun_with held work []))
   known_begins origin s f =
       let rest = resting held (state d) s none running f.tracks in
       let x : Publication = held.pending in
@@ -259,13 +259,13 @@ module _ {D : Type 0} (tells : Type 0) (clock count : D → ℕ) (since : D → 
         };
       }
 
-  pub begins_then : (rest : List Source) → rest ≡ [] → (w : Which) (origin : Origin) (s : StateIn (kind_of w)) → Stays tells clock count since state origin d held w s
-      → Leads (BeginsIn (kind_of w) s (machine.begun work.version work.files)) (Stays tells clock count since state origin d (begun_with held work rest) w)
+  pub begins_then : (rest : List Source) → rest ≡ [] → (w : Which) (origin : Origin) (s : StateIn (store_kind w)) → Stays tells clock count since state origin d held w s
+      → Leads (PublishLineIn (store_kind w) s (machine.begun work.version work.files)) (Stays tells clock count since state origin d (begun_with held work rest) w)
   begins_then rest nothing w origin s stays =
-      subst (λ (r : List Source). Leads (BeginsIn (kind_of w) s (machine.begun work.version work.files)) (Stays tells clock count since state origin d (begun_with held work r) w)) (sym nothing) (by w s stays)
+      subst (λ (r : List Source). Leads (PublishLineIn (store_kind w) s (machine.begun work.version work.files)) (Stays tells clock count since state origin d (begun_with held work r) w)) (sym nothing) (by w s stays)
     where
-      by : (w : Which) (s : StateIn (kind_of w)) → Stays tells clock count since state origin d held w s
-          → Leads (BeginsIn (kind_of w) s (machine.begun work.version work.files)) (Stays tells clock count since state origin d (begun_with held work []) w)
+      by : (w : Which) (s : StateIn (store_kind w)) → Stays tells clock count since state origin d held w s
+          → Leads (PublishLineIn (store_kind w) s (machine.begun work.version work.files)) (Stays tells clock count since state origin d (begun_with held work []) w)
       by known s stays = let l = known_begins origin s stays.is in record { next = l.next; step = l.step; now = record { is = l.now } }
       by any s stays = record {
         next = bare_of (begun_with held work []);

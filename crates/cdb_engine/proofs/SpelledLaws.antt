@@ -9,7 +9,7 @@ use Rattle.cdb_tiff_base.specs.Numbers.{Bytes}
 use Rattle.cdb_tiff_base.specs.Strips.{image_width, image_length}
 use Rattle.cdb_model.specs.Grammar.{Head, InlineSource, FileSource}
 use Rattle.cdb_model.specs.ImageFiles.{SpellsNone}
-use Rattle.cdb_model.specs.Spelled.{SpellsHead, SpellsSource, SpellsLoaded, row_of_posts, row_of_pixels}
+use Rattle.cdb_model.specs.Spelled.{SpellsHead, SpellsSource, SpellsLoaded, spelled_row, row_of_pixels}
 use Rattle.cdb_model.specs.Text.{last_first}
 use Rattle.cdb_engine.specs.Words.{HasRows, SpellsNoHead}
 use Rattle.cdb_engine.proofs.RowLaws.{all_allowed}
@@ -27,7 +27,7 @@ pub no_head : (w : InlineSource) (h : Head) → h ≡ w.head → SpellsNoHead h 
 no_head w h e none s spelled = none s.head (subst (λ x. SpellsHead x w.rows w.cols s.head) (sym e) spelled.head)
 
 pub no_row : (w : InlineSource) (v : ℤ) (kind : Kind) (rows cols : ℕ) → kind ≡ w.head.kind → v ≡ none_of kind → rows ≡ w.rows → cols ≡ w.cols
-    → (All (IsAllowed kind v) (last_first rows (row_of_posts cols w.posts)) → ⊥) → SpellsNone (SpellsSource w)
+    → (All (IsAllowed kind v) (last_first rows (spelled_row cols w.posts)) → ⊥) → SpellsNone (SpellsSource w)
 no_row w v kind rows cols k ev er ec none s spelled =
     none (rw (ev, k, er, ec) (posts_allowed s w.head.kind (none_of w.head.kind) _ spelled.head.kind spelled.posts))
 

@@ -2,7 +2,7 @@
 use Rattle.std.proofs.Common.{◌≡◌, ℕ, ◌+◌, ◌-◌, ◌<◌, ◌≤◌, Option, None, Some, Result, Ok, Err, sym, ◌∙◌, ap, subst, arith}
 use Rattle.std.proofs.lemmas.Option.{same_Some}
 use Rattle.cdb_model.specs.Events as machine
-use Rattle.cdb_model.specs.Stores.{Kind, Which, known, any, kind_of}
+use Rattle.cdb_model.specs.Stores.{Kind, Which, known, any, store_kind}
 use Rattle.cdb_model.specs.Transitions.{StateIn, GoingIn, GivenUpIn}
 use Rattle.cdb_publish.specs.declared.errors.Progress.{Progress}
 use Rattle.cdb_publish.specs.declared.errors.Progress.TheVariants as progress
@@ -10,7 +10,7 @@ use Rattle.cdb_engine.specs.StoreAnswers.{TriesIn, LeftIn, advance_answer}
 use Rattle.cdb_engine.specs.Tracks.{Leads}
 use Rattle.cdb_engine.specs.declared.errors.AdvanceError.{AdvanceError}
 use Rattle.cdb_engine.specs.declared.errors.AdvanceError.TheVariants as advance
-use Rattle.cdb_engine.specs.Populating.{ended_by, Finishes}
+use Rattle.cdb_engine.specs.Populating.{ended_by, FinishesSteps}
 use Rattle.cdb_engine.specs.declared.errors.PopulateError.{PopulateError}
 
 -- a state in which so many steps are left
@@ -80,37 +80,37 @@ module _ (k : Kind) (s : StateIn k) (now : GoingIn k) (left made : ℕ) (Old New
   pub not_idle : Leads (TriesIn k mid machine.nothing) New → ⊥
   not_idle led = let e : Some here ≡ None = led.step.0.idle in cc
 
-pub damaged : (w : Which) (s : StateIn (kind_of w)) (now : GoingIn (kind_of w)) (left made expected : ℕ)
+pub damaged : (w : Which) (s : StateIn (store_kind w)) (now : GoingIn (store_kind w)) (left made expected : ℕ)
     (found : Option ℕ)
-    (Old New : StateIn (kind_of w) → Type 0) → Partly (kind_of w) s now left made Old
-    → Leads (TriesIn (kind_of w) (with_left (kind_of w) s now.publication (now.left - made))
+    (Old New : StateIn (store_kind w) → Type 0) → Partly (store_kind w) s now left made Old
+    → Leads (TriesIn (store_kind w) (with_left (store_kind w) s now.publication (now.left - made))
     (machine.damaged expected found)) New
-    → (kind_of w).Maybe (New (dropped (kind_of w) s now.publication))
+    → (store_kind w).Maybe (New (dropped (store_kind w) s now.publication))
 damaged known s now left made expected found Old New p led = led.step
 damaged any s now left made expected found Old New p led =
-    given_up (kind_of any) s now left made Old New p led.next led.step led.now
+    given_up (store_kind any) s now left made Old New p led.next led.step led.now
 
 -- after a step was tried: one more was made, or the steps ended
-abbrev pub Steps : (w : Which) → StateIn (kind_of w) → GoingIn (kind_of w) → ℕ → ℕ → (StateIn (kind_of w) → Type 0)
+abbrev pub Steps : (w : Which) → StateIn (store_kind w) → GoingIn (store_kind w) → ℕ → ℕ → (StateIn (store_kind w) → Type 0)
     → Option (Result Unit PopulateError) → Type 0
-Steps w s now left made New None = Partly (kind_of w) s now left (made + 1) New
-Steps w s now left made New (Some end) = Finishes w s now.publication end New
+Steps w s now left made New None = Partly (store_kind w) s now left (made + 1) New
+Steps w s now left made New (Some end) = FinishesSteps w s now.publication end New
 
-module _ (w : Which) (s : StateIn (kind_of w)) (now : GoingIn (kind_of w)) (left made : ℕ)
-    (Old New : StateIn (kind_of w) → Type 0) (p : Partly (kind_of w) s now left made Old) where
+module _ (w : Which) (s : StateIn (store_kind w)) (now : GoingIn (store_kind w)) (left made : ℕ)
+    (Old New : StateIn (store_kind w) → Type 0) (p : Partly (store_kind w) s now left made Old) where
   stepped : (r : Result Progress AdvanceError)
-      → Leads (TriesIn (kind_of w) (with_left (kind_of w) s now.publication (now.left - made)) (advance_answer r)) New
+      → Leads (TriesIn (store_kind w) (with_left (store_kind w) s now.publication (now.left - made)) (advance_answer r)) New
       → Steps w s now left made New (ended_by r)
-  stepped (Ok progress.Going) led = one_more (kind_of w) s now left made Old New p led
-  stepped (Ok (progress.Published version)) led = last_one (kind_of w) s now left made Old New p version led
-  stepped (Err advance.Halted) led = absurd (not_halted (kind_of w) s now left made Old New p led)
-  stepped (Err advance.Nothing) led = absurd (not_idle (kind_of w) s now left made Old New p led)
-  stepped (Err advance.Fault) led = failed (kind_of w) s now left made Old New p led
+  stepped (Ok progress.Going) led = one_more (store_kind w) s now left made Old New p led
+  stepped (Ok (progress.Published version)) led = last_one (store_kind w) s now left made Old New p version led
+  stepped (Err advance.Halted) led = absurd (not_halted (store_kind w) s now left made Old New p led)
+  stepped (Err advance.Nothing) led = absurd (not_idle (store_kind w) s now left made Old New p led)
+  stepped (Err advance.Fault) led = failed (store_kind w) s now left made Old New p led
   stepped (Err (advance.Damaged expected found)) led = damaged w s now left made expected found Old New p led
 
   -- with what the step is said to end
   pub stepped_by : (r : Result Progress AdvanceError) (said : Option (Result Unit PopulateError)) → said ≡ ended_by r
-      → ((mid : StateIn (kind_of w)) → Old mid → Leads (TriesIn (kind_of w) mid (advance_answer r)) New)
+      → ((mid : StateIn (store_kind w)) → Old mid → Leads (TriesIn (store_kind w) mid (advance_answer r)) New)
       → Steps w s now left made New said
   stepped_by r said e on = subst (Steps w s now left made New) (sym e) (stepped r (on _ p.stays))
 

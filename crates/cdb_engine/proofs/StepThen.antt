@@ -1,8 +1,8 @@
 -- What an engine is after a step, as its parts are settled.
 use Rattle.std.proofs.Common.{◌≡◌, ℕ, ◌≤◌, length, Option, None, Some, Result, ap, sym, ◌∙◌, subst}
-use Rattle.cdb_model.specs.KnownStore.{State}
+use Rattle.cdb_model.specs.KnownStore.{KnownState}
 use Rattle.cdb_model.specs.Maps.{FileMap}
-use Rattle.cdb_model.specs.Stores.{Which, kind_of}
+use Rattle.cdb_model.specs.Stores.{Which, store_kind}
 use Rattle.cdb_model.specs.Transitions.{StateIn}
 use Rattle.cdb_files.specs.Disk as disk
 use Rattle.cdb_files.specs.Disk.{IsImage}
@@ -31,13 +31,13 @@ module _ {D : Type 0} (tells : Type 0) (clock count : D → ℕ) (since : D → 
   settled = (λ i. after_step held chain' (sym left_is i) (halt_is i))
 
   pub step_then : ((t : ℕ) (m : FileMap) → t ≤ clock new → IsImage (state new) m → since new t m) → ((m : FileMap) → since old (clock old) m → IsImage (state old) m)
-      → (w : Which) (origin : Origin) (s : StateIn (kind_of w)) → Stays tells clock count since state origin old held w s
-      → Leads (TriesIn (kind_of w) s (advance_answer answer)) (Stays tells clock count since state origin new (after_step held chain' left halted) w)
+      → (w : Which) (origin : Origin) (s : StateIn (store_kind w)) → Stays tells clock count since state origin old held w s
+      → Leads (TriesIn (store_kind w) s (advance_answer answer)) (Stays tells clock count since state origin new (after_step held chain' left halted) w)
   step_then counts_now only_now w origin s stays =
-      subst (λ (a : Result Progress AdvanceError). Leads (TriesIn (kind_of w) s (advance_answer a)) (Stays tells clock count since state origin new (after_step held chain' left halted) w)) (sym answer_is)
-      (subst (λ (h : Held). Leads (TriesIn (kind_of w) s (advance_answer (advance_of result))) (Stays tells clock count since state origin new h w)) settled
+      subst (λ (a : Result Progress AdvanceError). Leads (TriesIn (store_kind w) s (advance_answer a)) (Stays tells clock count since state origin new (after_step held chain' left halted) w)) (sym answer_is)
+      (subst (λ (h : Held). Leads (TriesIn (store_kind w) s (advance_answer (advance_of result))) (Stays tells clock count since state origin new h w)) settled
       (both tells clock count since state old new held (after_step held chain' (work_after result work') (halt_after result (count new)))
-      (λ w s t. TriesIn (kind_of w) s (advance_answer (advance_of result)) t)
+      (λ w s t. TriesIn (store_kind w) s (advance_answer (advance_of result)) t)
       (λ origin s follows. known_step tells clock count since state old new held chain' work work' has running can origin s follows counts_now only_now result made)
       (any_step tells clock count since state old new held chain' work work' has running can (count new) result made) w origin s stays))
 
@@ -56,5 +56,5 @@ module _ {D : Type 0} (tells : Type 0) (clock count : D → ℕ) (since : D → 
   pub cause_then : AdvanceCause answer (count old) (count new)
   cause_then = subst (λ (a : Result Progress AdvanceError). AdvanceCause a (count old) (count new)) (sym answer_is) (cause_after tells clock count since state old new held chain' work work' has running can result made)
 
-  pub moments_then : (s : State) → tells → Tracks held (state old) s → AddsOnly clock since old new (DuringNow s.list s.going)
+  pub moments_then : (s : KnownState) → tells → Tracks held (state old) s → AddsOnly clock since old new (DuringNow s.list s.going)
   moments_then s told tracks = moments_now tells clock count since state old new held chain' work work' has running can told s tracks result made

@@ -6,7 +6,7 @@ use Rattle.cdb_model.specs.Begun.{unfinished}
 use Rattle.cdb_model.specs.Causes.{Rose}
 use Rattle.cdb_model.specs.Events as machine
 use Rattle.cdb_model.specs.Images.{StandsFrom, StandsSince}
-use Rattle.cdb_model.specs.KnownStore.{State, Going}
+use Rattle.cdb_model.specs.KnownStore.{KnownState, Going}
 use Rattle.cdb_model.specs.Maps.{FileMap}
 use Rattle.cdb_model.specs.Publications.{Publication, step_count}
 use Rattle.cdb_model.specs.Stands.{Stands}
@@ -19,7 +19,7 @@ use Rattle.cdb_crash.specs.Crash.{IsClean, IsEither}
 use Rattle.cdb_chain.specs.Publications.{AreRecords}
 use Rattle.cdb_chain.specs.Versions.{Versions}
 use Rattle.cdb_publish.specs.Causes.{IsCaused}
-use Rattle.cdb_publish.specs.Entries.{entries_in, Adds}
+use Rattle.cdb_publish.specs.Entries.{entries_in, AddsRecord}
 use Rattle.cdb_publish.specs.Going.{Underway, left_of, TellsProgress}
 use Rattle.cdb_publish.specs.declared.errors.Progress.{Progress}
 use Rattle.cdb_publish.specs.declared.errors.Progress.TheVariants as progress
@@ -65,13 +65,13 @@ can_of chain o work is can = let all : IfSome (Some work) (CanStep chain) = subs
 -- ---- the engine before the step
 
 -- an engine with a publication to work on, that isn't halted, is in the middle of one
-pub record InMiddle (s : State) (chain : Versions) (work : publish.Publication) (d : disk.State) : Type 0 where
+pub record InMiddle (s : KnownState) (chain : Versions) (work : publish.Publication) (d : disk.State) : Type 0 where
   pub now : Going
   pub going : s.going ≡ Some now
   pub running : s.halted ≡ None
   pub is : IsGoing s.list now work chain d
 
-pub middle : (held : Held) (d : disk.State) (s : State) (work : publish.Publication) → held.work ≡ Some work → held.halted ≡ None → Tracks held d s → InMiddle s held.chain work d
+pub middle : (held : Held) (d : disk.State) (s : KnownState) (work : publish.Publication) → held.work ≡ Some work → held.halted ≡ None → Tracks held d s → InMiddle s held.chain work d
 middle held d s work has running t =
     by s.going s.halted refl refl (subst (λ (h : Option ℕ). Works s.list s.going s.halted (Some work) h held.chain d) running
     (subst (λ (w : Option publish.Publication). Works s.list s.going s.halted w held.halted held.chain d) has t.works))
@@ -127,7 +127,7 @@ pub record Steps {D : Type 0} (tells : Type 0) (clock count : D → ℕ) (since 
   pub files : work'.files ≡ work.files
   pub chain_is : 1 < left_of work → chain' ≡ chain
   pub refused : OnErr result (chain' ≡ chain)
-  pub added : left_of work ≡ 1 → OnOk result (Adds work.version work.files chain.records chain'.records)
+  pub added : left_of work ≡ 1 → OnOk result (AddsRecord work.version work.files chain.records chain'.records)
   pub undamaged : tells → (P : List Publication) (x : Publication) (number : ℕ) → Underway work P x number chain.records (state old) → IfErr result (λ e. e ≡ made.Fault)
   pub cause : IsCaused (count old) (count new) result
 
@@ -143,7 +143,7 @@ module _ {D : Type 0} (tells : Type 0) (clock count : D → ℕ) (since : D → 
 
   -- ---- over a store that is known
 
-  module _ (told : tells) (s : State) (tracks : Tracks held (state old) s) where
+  module _ (told : tells) (s : KnownState) (tracks : Tracks held (state old) s) where
     abbrev pub mid : InMiddle s held.chain work (state old)
     mid = middle held (state old) s work has running tracks
 
@@ -164,9 +164,9 @@ module _ {D : Type 0} (tells : Type 0) (clock count : D → ℕ) (since : D → 
     pub moments_now : (result : Result Progress StepError) → Made result → AddsOnly clock since old new (DuringNow s.list s.going)
     moments_now result k = subst (λ (g : Option Going). AddsOnly clock since old new (DuringNow s.list g)) (sym mid.going) (during result k)
 
-  module _ (origin : Origin) (s : State) (follows : Follows tells origin (clock old) (count old) (since old) (state old) held s)
+  module _ (origin : Origin) (s : KnownState) (follows : Follows tells origin (clock old) (count old) (since old) (state old) held s)
       (counts_now : (t : ℕ) (m : FileMap) → t ≤ clock new → IsImage (state new) m → since new t m) (only_now : (m : FileMap) → since old (clock old) m → IsImage (state old) m) where
-    abbrev Now : Held → State → Type 0
+    abbrev Now : Held → KnownState → Type 0
     Now h t = Follows tells origin (clock new) (count new) (since new) (state new) h t
 
     abbrev pub i : InMiddle s held.chain work (state old)
@@ -204,7 +204,7 @@ module _ {D : Type 0} (tells : Type 0) (clock count : D → ℕ) (since : D → 
         let c : i.is.made + i.now.left ≡ step_count s.list i.now.publication i.is.underway.work.plan.record.tiles = i.is.count in
         let c' : step_count s.list i.now.publication i.is.underway.work.plan.record.tiles ≡ step_count s.list i.now.publication u.work.plan.record.tiles = ap (step_count s.list i.now.publication) tiles in
         let left' : left_of work' + 1 ≡ left_of work = k.left in
-        let next : State = record s { going = Some record { publication = i.now.publication; left = i.now.left - 1 } } in
+        let next : KnownState = record s { going = Some record { publication = i.now.publication; left = i.now.left - 1 } } in
         let works : Works s.list next.going None (Some work') None chain' (state new) =
         record {
           made = i.is.made + 1;
@@ -243,7 +243,7 @@ module _ {D : Type 0} (tells : Type 0) (clock count : D → ℕ) (since : D → 
         let last : left_of work ≡ 1 = k.progress.0 in
         let l : left_of work ≡ i.now.left = i.is.left in
         let done = k.published follows.told s.list i.now.publication i.is.made i.is.underway last in
-        let next : State = record s { list = s.list ++ i.now.publication ∷ []; going = None } in
+        let next : KnownState = record s { list = s.list ++ i.now.publication ∷ []; going = None } in
         record {
           next = next;
           step = record { now = i.now; going = i.going; running = i.running; last = sym l ∙ last; version_is = k.progress.1 ∙ can.next ∙ ap (λ (n : ℕ). n + 1) follows.tracks.records.count; next = refl };
@@ -343,7 +343,7 @@ module _ {D : Type 0} (tells : Type 0) (clock count : D → ℕ) (since : D → 
   any_published : (version : ℕ) → Made (Ok (progress.Published version)) → TriesIn any_store (bare_of held) (machine.published version) (bare_of (after_step held chain' None None))
   any_published version k =
       let last : left_of work ≡ 1 = k.progress.0 in
-      let a : Adds work.version work.files held.chain.records chain'.records = k.added last in
+      let a : AddsRecord work.version work.files held.chain.records chain'.records = k.added last in
       let versions : length chain'.records ≡ length held.chain.records + 1 = ap length a.new_is ∙ length-append held.chain.records (a.item ∷ []) in
       let entries : entries_in chain'.records ≡ entries_in held.chain.records + work.files =
       ap entries_in a.new_is ∙ entries_more held.chain.records a.item ∙ ap (λ (n : ℕ). entries_in held.chain.records + n) a.files_are in

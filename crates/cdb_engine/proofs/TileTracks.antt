@@ -7,15 +7,15 @@ use Rattle.cdb_source.specs.Reached.{Reached}
 use Rattle.cdb_source.specs.declared.source.Source.{Source}
 use Rattle.cdb_source.proofs.ReachLaws.{tile_same, tile_untouched, tile_unreached}
 use Rattle.cdb_model.specs.ByteLaws.{BytesByReaching}
-use Rattle.cdb_model.specs.KnownStore.{State, Going}
+use Rattle.cdb_model.specs.KnownStore.{KnownState, Going}
 use Rattle.cdb_model.specs.Maps.{FileMap, size_of}
 use Rattle.cdb_model.specs.Names.{path}
 use Rattle.cdb_model.specs.Publications.{Publication, heads_of, sources_of, sources_up_to}
 use Rattle.cdb_model.specs.Sessions.{session_of}
 use Rattle.cdb_model.specs.Stands.{Stands, HasVersion, IsVersionFile}
-use Rattle.cdb_model.specs.Stores.{Which, kind_of, known_store, any_store}
+use Rattle.cdb_model.specs.Stores.{Which, store_kind, known_store, any_store}
 use Rattle.cdb_model.specs.TileFile.{tile_bytes}
-use Rattle.cdb_model.specs.Transitions.{StateIn, AsksIn}
+use Rattle.cdb_model.specs.Transitions.{StateIn, TileLineIn}
 use Rattle.cdb_model.specs.declared.session.Session.{Session}
 use Rattle.cdb_files.specs.Disk as disk
 use Rattle.cdb_files.specs.Disk.{IsImage}
@@ -27,8 +27,8 @@ use Rattle.cdb_chain.specs.Versions.{Versions, IsFound, IsNewest}
 use Rattle.cdb_chain.proofs.Lists.{some_is, some_at, in_range, at_place, Split, split}
 use Rattle.cdb_chain.proofs.ReachedLaws.{meets_sources, names_files}
 use Rattle.cdb_publish.specs.declared.publication.Publication as publish
-use Rattle.cdb_sessions.specs.Cache.{Kept, IsFront, IsKept, IsDamaged, HasNone, file_length}
-use Rattle.cdb_sessions.specs.Sessions.{Sessions, Looks, IsServed, AreCurrent, ServesCurrent, pair_of, open_part}
+use Rattle.cdb_sessions.specs.Cache.{Kept, IsMovedToFront, IsKept, IsDamaged, HasNone, file_length}
+use Rattle.cdb_sessions.specs.Sessions.{Sessions, LooksUp, TileOutcome, AreCurrent, ServesCurrent, pair_of, open_part}
 use Rattle.cdb_sessions.specs.declared.errors.TileError.{TileError}
 use Rattle.cdb_sessions.specs.declared.errors.TileError.TheVariants as tile_error
 use Rattle.cdb_sessions.specs.declared.sessions.Reply.{Reply}
@@ -111,25 +111,25 @@ module _ (present : FileMap) (P : List Publication) (chain : Versions) (are : Ar
       }
 
   module _ {D : Type 0} (tells : Type 0) (told : tells) (before after : D) (id : ℕ) (t : Tile) (old new : Sessions) (files : AllByRecursion (IsFileOf P) old.kept) where
-    front : (version : ℕ) → IsFront (pair_of version t) old.kept new.kept → AllByRecursion (IsFileOf P) new.kept
+    front : (version : ℕ) → IsMovedToFront (pair_of version t) old.kept new.kept → AllByRecursion (IsFileOf P) new.kept
     front version f =
         let k : Kept = record { pair = pair_of version t; bytes = f.bytes } in
         let all : AllByRecursion (IsFileOf P) (f.before ++ k ∷ f.after) = subst (AllByRecursion (IsFileOf P)) f.was files in
         let right = all_right (IsFileOf P) f.before (k ∷ f.after) all in
         subst (AllByRecursion (IsFileOf P)) (sym f.now) (right.0, all_both (IsFileOf P) f.before f.after (all_left (IsFileOf P) f.before (k ∷ f.after) all) right.1)
 
-    read : (version : ℕ) → Looks old.list chain id t (Some version) → IsKept tells present (pair_of version t) old.kept new.kept → AllByRecursion (IsFileOf P) new.kept
+    read : (version : ℕ) → LooksUp old.list chain id t (Some version) → IsKept tells present (pair_of version t) old.kept new.kept → AllByRecursion (IsFileOf P) new.kept
     read version looks k =
         subst (AllByRecursion (IsFileOf P)) (sym k.now)
         (new_file looks.session.version version t k.bytes (newest_of chain looks.session.version t version looks.looked) (k.told told), all_first (IsFileOf P) 6 old.kept files)
 
-    given : (version : ℕ) → Looks old.list chain id t (Some version) → (IsFront (pair_of version t) old.kept new.kept × (after ≡ before)) ⊎ (HasNone (pair_of version t) old.kept × IsKept tells present (pair_of version t) old.kept new.kept)
+    given : (version : ℕ) → LooksUp old.list chain id t (Some version) → (IsMovedToFront (pair_of version t) old.kept new.kept × (after ≡ before)) ⊎ (HasNone (pair_of version t) old.kept × IsKept tells present (pair_of version t) old.kept new.kept)
         → AllByRecursion (IsFileOf P) new.kept
     given version looks (inl f) = front version f.0
     given version looks (inr k) = read version looks k.1
 
     -- what is kept stays that of files of the list
-    kept_then : (result : Result Reply TileError) → IsServed tells present before after chain id t old new result → AllByRecursion (IsFileOf P) new.kept
+    kept_then : (result : Result Reply TileError) → TileOutcome tells present before after chain id t old new result → AllByRecursion (IsFileOf P) new.kept
     kept_then (Ok Missing) h = subst (AllByRecursion (IsFileOf P)) (sym h.1.0) files
     kept_then (Ok (Bytes count)) h = given h.version h.looks h.files
     kept_then (Err tile_error.Unknown) h = subst (AllByRecursion (IsFileOf P)) (sym h.1.0) files
@@ -137,14 +137,14 @@ module _ (present : FileMap) (P : List Publication) (chain : Versions) (are : Ar
     kept_then (Err (tile_error.Damaged expected found)) h = subst (AllByRecursion (IsFileOf P)) (sym h.1.0) files
 
     -- no file is damaged
-    whole_file : (version expected : ℕ) (found : Option ℕ) → Looks old.list chain id t (Some version) → IsDamaged tells present (pair_of version t) expected found → ⊥
+    whole_file : (version expected : ℕ) (found : Option ℕ) → LooksUp old.list chain id t (Some version) → IsDamaged tells present (pair_of version t) expected found → ⊥
     whole_file version expected found looks damaged =
         let real : present (path version t) ≡ Some (tile_bytes (sources_up_to looks.session.version P) t) = names_files bytes_law present chain P looks.session.version t version has are looks.looked in
         let long : length (tile_bytes (sources_up_to looks.session.version P) t) ≡ file_length t = are_sized.length_is (sources_up_to looks.session.version P) t in
         damaged.other (damaged.told told ∙ ap size_of real ∙ ap (λ n. Some n) (long ∙ sym damaged.form))
 
-    known_asks : (s : State) → s.list ≡ P → old.list ≡ s.sessions → (result : Result Reply TileError) → ServesCurrent present old.list chain id t new result
-        → IsServed tells present before after chain id t old new result → AsksIn known_store s id t (tile_answer result new.reply) s
+    known_asks : (s : KnownState) → s.list ≡ P → old.list ≡ s.sessions → (result : Result Reply TileError) → ServesCurrent present old.list chain id t new result
+        → TileOutcome tells present before after chain id t old new result → TileLineIn known_store s id t (tile_answer result new.reply) s
     known_asks s list sessions (Ok Missing) c h = (
       record {
         session = h.0.session;
@@ -155,7 +155,7 @@ module _ (present : FileMap) (P : List Publication) (chain : Versions) (are : Ar
     )
     known_asks s list sessions (Ok (Bytes count)) c h =
         let r = c.reply count refl in
-        let looks : Looks old.list chain id t (Some r.0) = r.1 in
+        let looks : LooksUp old.list chain id t (Some r.0) = r.1 in
         let version : ℕ = looks.session.version in
         let reached : Reached (heads_of (sources_up_to version P)) t = meets_sources chain P version t (Some r.0) are looks.looked in
         let real : present (path r.0 t) ≡ Some (tile_bytes (sources_up_to version P) t) = names_files bytes_law present chain P version t r.0 has are looks.looked in
@@ -174,7 +174,7 @@ module _ (present : FileMap) (P : List Publication) (chain : Versions) (are : Ar
 -- ---- any store
 
 any_asks : {D : Type 0} (tells : Type 0) (present : FileMap) (before after : D) (held : Held) (id : ℕ) (t : Tile) (old new : Sessions) → old.list ≡ held.sessions → (result : Result Reply TileError)
-    → IsServed tells present before after held.chain id t old new result → AsksIn any_store (bare_of held) id t (tile_answer result new.reply) (bare_of held)
+    → TileOutcome tells present before after held.chain id t old new result → TileLineIn any_store (bare_of held) id t (tile_answer result new.reply) (bare_of held)
 any_asks tells present before after held id t old new same (Ok Missing) h = (record { session = h.0.session; is_open = ap (session_of id) (sym same) ∙ h.0.is_open; misses = tt }, refl)
 any_asks tells present before after held id t old new same (Ok (Bytes count)) h = (record { session = h.looks.session; is_open = ap (session_of id) (sym same) ∙ h.looks.is_open; serves = tt }, refl)
 any_asks tells present before after held id t old new same (Err tile_error.Unknown) h = (ap (session_of id) (sym same) ∙ h.0, refl)
@@ -185,7 +185,7 @@ any_asks tells present before after held id t old new same (Err (tile_error.Dama
 
 -- the bytes of the reply
 pub bytes_then : {D : Type 0} (tells : Type 0) (present : FileMap) (before after : D) (chain : Versions) (id : ℕ) (t : Tile) (old new : Sessions) (result : Result Reply TileError)
-    → IsServed tells present before after chain id t old new result → HasBytes result new.reply
+    → TileOutcome tells present before after chain id t old new result → HasBytes result new.reply
 bytes_then tells present before after chain id t old new (Ok Missing) h = h.1.1
 bytes_then tells present before after chain id t old new (Ok (Bytes count)) h = h.count_is
 bytes_then tells present before after chain id t old new (Err tile_error.Unknown) h = h.1.1
@@ -195,7 +195,7 @@ bytes_then tells present before after chain id t old new (Err (tile_error.Damage
 -- ---- the files of the versions
 
 -- they are there at present, also while a publication is going and after one was given up
-pub versions_there : (held : Held) (d : disk.State) (s : State) → Tracks held d s → IsImage d d.present → HasVersions d.present s.list
+pub versions_there : (held : Held) (d : disk.State) (s : KnownState) → Tracks held d s → IsImage d d.present → HasVersions d.present s.list
 versions_there held d s t image = by s.going s.halted held.work held.halted t.works
   where
     of : Stands d.present s.list → HasVersions d.present s.list
@@ -220,11 +220,11 @@ asked_with held new = record held { kept = new.kept; reply = new.reply }
 
 module _ {D : Type 0} (tells : Type 0) (clock count : D → ℕ) (since : D → ℕ → FileMap → Type 0) (state : D → disk.State) (old new : D) (held : Held) (id : ℕ) (t : Tile) (were now : Sessions)
     (result : Result Reply TileError) (sessions_are : were.list ≡ held.sessions) (kept_are : were.kept ≡ held.kept)
-    (served : IsServed tells (state old).present old new held.chain id t were now result)
+    (served : TileOutcome tells (state old).present old new held.chain id t were now result)
     (current : tells → AreCurrent (state old).present were.kept → ServesCurrent (state old).present were.list held.chain id t now result)
     (possible : tells → IsImage (state old) (state old).present) (same : state new ≡ state old) (rests : Rests (clock old) (clock new) (since old) (since new)) (later : count old ≤ count new) where
-  pub follows_asked : (origin : Origin) (s : State) → Follows tells origin (clock old) (count old) (since old) (state old) held s
-      → Leads (AsksIn known_store s id t (tile_answer result now.reply)) (Follows tells origin (clock new) (count new) (since new) (state new) (asked_with held now))
+  pub follows_asked : (origin : Origin) (s : KnownState) → Follows tells origin (clock old) (count old) (since old) (state old) held s
+      → Leads (TileLineIn known_store s id t (tile_answer result now.reply)) (Follows tells origin (clock new) (count new) (since new) (state new) (asked_with held now))
   follows_asked origin s f =
       let has : HasVersions (state old).present s.list = versions_there held (state old) s f.tracks (possible f.told) in
       let files : AllByRecursion (IsFileOf s.list) were.kept = subst (AllByRecursion (IsFileOf s.list)) (sym kept_are) f.tracks.kept in
@@ -251,21 +251,21 @@ module _ {D : Type 0} (tells : Type 0) (clock count : D → ℕ) (since : D → 
         };
       }
 
-  pub any_asked : AsksIn any_store (bare_of held) id t (tile_answer result now.reply) (bare_of (asked_with held now))
+  pub any_asked : TileLineIn any_store (bare_of held) id t (tile_answer result now.reply) (bare_of (asked_with held now))
   any_asked = any_asks tells (state old).present old new held id t were now sessions_are result served
 
 -- a request for a tile, by what the sessions are before and after it
 module _ {D : Type 0} (tells : Type 0) (clock count : D → ℕ) (since : D → ℕ → FileMap → Type 0) (state : D → disk.State) (old new : D) (chain : Versions) (work : Option publish.Publication)
     (pending : List Source) (halted : Option ℕ) (id : ℕ) (t : Tile) (were now : Sessions) (result : Result Reply TileError) (open_is : open_part now ≡ open_part were)
-    (served : IsServed tells (state old).present old new chain id t were now result)
+    (served : TileOutcome tells (state old).present old new chain id t were now result)
     (current : tells → AreCurrent (state old).present were.kept → ServesCurrent (state old).present were.list chain id t now result)
     (possible : tells → IsImage (state old) (state old).present) (same : state new ≡ state old) (rests : Rests (clock old) (clock new) (since old) (since new)) (later : count old ≤ count new) where
-  pub asks_then : (w : Which) (origin : Origin) (s : StateIn (kind_of w)) → Stays tells clock count since state origin old (held_of chain work pending were halted) w s
-      → Leads (AsksIn (kind_of w) s id t (tile_answer result now.reply)) (Stays tells clock count since state origin new (held_of chain work pending now halted) w)
+  pub asks_then : (w : Which) (origin : Origin) (s : StateIn (store_kind w)) → Stays tells clock count since state origin old (held_of chain work pending were halted) w s
+      → Leads (TileLineIn (store_kind w) s id t (tile_answer result now.reply)) (Stays tells clock count since state origin new (held_of chain work pending now halted) w)
   asks_then w origin s stays =
       let held : Held = held_of chain work pending were halted in
-      subst (λ (o : Open). Leads (AsksIn (kind_of w) s id t (tile_answer result now.reply))
+      subst (λ (o : Open). Leads (TileLineIn (store_kind w) s id t (tile_answer result now.reply))
       (Stays tells clock count since state origin new (record (held_of chain work pending now halted) { sessions = o.list; opened = o.opened }) w)) (sym open_is)
-      (both tells clock count since state old new held (asked_with held now) (λ w s u. AsksIn (kind_of w) s id t (tile_answer result now.reply) u)
+      (both tells clock count since state old new held (asked_with held now) (λ w s u. TileLineIn (store_kind w) s id t (tile_answer result now.reply) u)
       (λ origin s f. follows_asked tells clock count since state old new held id t were now result refl refl served current possible same rests later origin s f)
       (any_asked tells clock count since state old new held id t were now result refl refl served current possible same rests later) w origin s stays)

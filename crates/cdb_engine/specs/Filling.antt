@@ -4,9 +4,9 @@ use Rattle.cdb_model.specs.Images.{Base}
 use Rattle.cdb_model.specs.Maps.{FileMap}
 use Rattle.cdb_model.specs.Publications.{Publication, IsEntryCount}
 use Rattle.cdb_model.specs.Stands.{Stands}
-use Rattle.cdb_model.specs.Stores.{Which, known, any, kind_of}
+use Rattle.cdb_model.specs.Stores.{Which, known, any, store_kind}
 use Rattle.cdb_model.specs.Transitions.{StateIn}
-use Rattle.cdb_generate.specs.Generated.{Generates, Sofar}
+use Rattle.cdb_generate.specs.Generated.{Generates, GeneratedSoFar}
 use Rattle.cdb_generate.specs.Generator.{passed}
 use Rattle.cdb_generate.specs.Sums.{IsSum}
 use Rattle.cdb_engine.specs.Populating.{IsAtRest, StopsBy}
@@ -18,45 +18,45 @@ use Rattle.cdb_engine.specs.declared.drawn_publication.Published.{Published}
 -- ---- a store that is known, and any
 
 -- so many publications of the generator came after a list, with so many files and their sum
-abbrev pub Follow : (w : Which) → (kind_of w).Listed → ℕ → ℕ → ℕ → ℤ → (kind_of w).Listed → Type 0
-Follow known from start done files sum list = Sofar from start (passed done start) done files sum list
-Follow any from start done files sum list =
+abbrev pub ComeAfter : (w : Which) → (store_kind w).Listed → ℕ → ℕ → ℕ → ℤ → (store_kind w).Listed → Type 0
+ComeAfter known from start done files sum list = GeneratedSoFar from start (passed done start) done files sum list
+ComeAfter any from start done files sum list =
     (list.versions ≡ from.versions + done) × (list.entries ≡ from.entries + files)
 
 -- they are complete, and nothing is pending, going or open
-pub record AreMade (w : Which) (old : StateIn (kind_of w)) (start done files : ℕ) (sum : ℤ)
-    (new : StateIn (kind_of w)) : Type 0 where
-  pub follow : Follow w old.list start done files sum new.list
-  pub at_rest : IsAtRest (kind_of w) new
+pub record AreMade (w : Which) (old : StateIn (store_kind w)) (start done files : ℕ) (sum : ℤ)
+    (new : StateIn (store_kind w)) : Type 0 where
+  pub follow : ComeAfter w old.list start done files sum new.list
+  pub at_rest : IsAtRest (store_kind w) new
 
 -- fewer than were wanted are complete; why there is no further one, and how far that came
-pub record StopsAfter (w : Which) (old : StateIn (kind_of w)) (start count : ℕ) (error : PopulateError)
-    (new : StateIn (kind_of w)) : Type 0 where
+pub record StopsAfter (w : Which) (old : StateIn (store_kind w)) (start count : ℕ) (error : PopulateError)
+    (new : StateIn (store_kind w)) : Type 0 where
   pub done : ℕ
   pub fewer : done < count
   pub files : ℕ
   pub sum : ℤ
-  pub mid : StateIn (kind_of w)
+  pub mid : StateIn (store_kind w)
   pub made : AreMade w old start done files sum mid
   pub stops : StopsBy w mid (passed done start) error new
 
-abbrev pub FillsIn : (w : Which) → StateIn (kind_of w) → ℕ → ℕ → Result Published PopulateError → StateIn (kind_of w)
+abbrev pub FillsIn : (w : Which) → StateIn (store_kind w) → ℕ → ℕ → Result Published PopulateError → StateIn (store_kind w)
     → Type 0
 FillsIn w old start count (Ok made) new = AreMade w old start count made.files made.sum new
 FillsIn w old start count (Err error) new = StopsAfter w old start count error new
 
 -- all of them are made, and the newest version is told; or there was no memory to begin with, or they stopped
-abbrev pub PopulatesIn : (w : Which) → StateIn (kind_of w) → ℕ → ℕ → Result Made PopulateError → StateIn (kind_of w)
+abbrev pub PopulatesIn : (w : Which) → StateIn (store_kind w) → ℕ → ℕ → Result Made PopulateError → StateIn (store_kind w)
     → Type 0
 PopulatesIn w old start count (Ok made) new =
-    AreMade w old start count made.files made.sum new × (made.versions ≡ (kind_of w).versions new.list)
+    AreMade w old start count made.files made.sum new × (made.versions ≡ (store_kind w).versions new.list)
 PopulatesIn w old start count (Err error) new =
     ((error ≡ Memory) × (new ≡ old)) ⊎ StopsAfter w old start count error new
 
 -- ---- a store that is known, from its beginning
 
 -- all are made, a crash leaves them all, and their number, their files and their sum are those that are told
-pub record IsFilled (base : Base) (count : ℕ) (Left : FileMap → Type 0) (list : List Publication) (made : Made)
+pub record FillsWith (base : Base) (count : ℕ) (Left : FileMap → Type 0) (list : List Publication) (made : Made)
     : Type 0 where
   pub all : length list ≡ count
   pub at_exit : (m : FileMap) → Left m → Stands m (base.list ++ list)
@@ -74,5 +74,5 @@ pub record Populates (base : Base) (start count : ℕ) (Since Left : FileMap →
     (result : Result Made PopulateError) : Type 0 where
   pub begun : List Publication
   pub generates : Generates base start count Since begun
-  pub filled : IfOk result (IsFilled base count Left begun)
+  pub filled : IfOk result (FillsWith base count Left begun)
   pub undamaged : IfErr result IsUndamaged

@@ -19,7 +19,7 @@ pub record IsBigOf (size : ℕ) (content : Content) : Type 0 where
   pub big : 67108864 < size
 
 -- a file that is there, isn't big, and for this cause isn't read
-pub record IsRefused (error : TiffError) (content : Content) : Type 0 where
+pub record IsRefusedFile (error : TiffError) (content : Content) : Type 0 where
   pub bytes : Bytes
   pub there : content ≡ Some bytes
   pub small : length bytes ≤ 67108864
@@ -38,7 +38,7 @@ IsLoaded w content (Err Memory) = Unit {0}
 IsLoaded w content (Err Shelf) = Unit {0}
 IsLoaded w content (Err Absent) = content ≡ None
 IsLoaded w content (Err (Big size)) = IsBigOf size content
-IsLoaded w content (Err (Input error)) = IsRefused error content
+IsLoaded w content (Err (Input error)) = IsRefusedFile error content
 IsLoaded w content (Err Range) = IsUnfit w content
 
 -- some content, which is the file where the shelf tells, makes this of words
@@ -56,18 +56,18 @@ pub record ReadsAll (Tells : Type 0) (file : Content) (bytes : Bytes) : Type 0 w
   pub small : length bytes ≤ 67108864
 
 -- why a file wasn't read
-abbrev pub IsUnread : Content → LoadError → Type 0
-IsUnread content Memory = Unit {0}
-IsUnread content Shelf = Unit {0}
-IsUnread content Absent = content ≡ None
-IsUnread content (Big size) = IsBigOf size content
-IsUnread content _ = ⊥
+abbrev pub LoadCause : Content → LoadError → Type 0
+LoadCause content Memory = Unit {0}
+LoadCause content Shelf = Unit {0}
+LoadCause content Absent = content ≡ None
+LoadCause content (Big size) = IsBigOf size content
+LoadCause content _ = ⊥
 
 -- some content, which is the file where the shelf tells, is the reason
 pub record ReadsNot (Tells : Type 0) (file : Content) (error : LoadError) : Type 0 where
   pub content : Content
   pub told : Tells → content ≡ file
-  pub unread : IsUnread content error
+  pub unread : LoadCause content error
 
 -- what the bytes of a file make of words
 abbrev pub IsMadeOf : FileSource → Bytes → Result Source LoadError → Type 0

@@ -3,11 +3,11 @@ use Rattle.std.specs.Prelude.{◌≡◌, ℕ, ◌<◌, ℤ, List, [], length, Al
 use Rattle.cdb_grid.specs.declared.tile.Tile.{Tile}
 use Rattle.cdb_source.specs.declared.source.Source.{Source}
 use Rattle.cdb_source.specs.Reached.{Reached}
-use Rattle.cdb_model.specs.KnownStore.{State}
+use Rattle.cdb_model.specs.KnownStore.{KnownState}
 use Rattle.cdb_model.specs.Publications.{publication_of, sources_of, sources_up_to, heads_of, Touches}
 use Rattle.cdb_model.specs.Sessions.{session_of}
 use Rattle.cdb_model.specs.declared.session.Session.{Session}
-use Rattle.cdb_model.specs.Stores.{Kind, Which, known, any, kind_of}
+use Rattle.cdb_model.specs.Stores.{Kind, Which, known, any, store_kind}
 use Rattle.cdb_model.specs.Transitions.{StateIn, HasEntriesIn, IsFullOfVersionsIn}
 use Rattle.cdb_publish.specs.declared.errors.Progress.{Progress}
 use Rattle.cdb_publish.specs.declared.errors.Progress.TheVariants as progress
@@ -33,54 +33,54 @@ pub record IsAtRest (k : Kind) (s : StateIn k) : Type 0 where
   pub sessions : s.sessions ≡ []
 
 -- the sum of the values of tiles at the newest version, where the publications are known
-abbrev pub IsSumAt : (w : Which) → (kind_of w).Listed → List Tile → ℤ → Type 0
+abbrev pub IsSumAt : (w : Which) → (store_kind w).Listed → List Tile → ℤ → Type 0
 IsSumAt known list tiles sum = sum ≡ tiles_sum (sources_of list) tiles
 IsSumAt any list tiles sum = Unit {0}
 
 -- the publication that is drawn next, and its plan
-pub record IsNext (w : Which) (old : StateIn (kind_of w)) (x : ℕ) : Type 0 where
+pub record IsDrawnNext (w : Which) (old : StateIn (store_kind w)) (x : ℕ) : Type 0 where
   pub sources : List Source
   pub drawn : PublicationDrawn x sources
   pub tiles : List Tile
   pub touched : Touches (publication_of sources) tiles
-  pub planned : (kind_of w).Planned
+  pub planned : (store_kind w).Planned
   pub left : ℕ
-  pub starts : (kind_of w).Starts old.list sources tiles planned left
+  pub starts : (store_kind w).Starts old.list sources tiles planned left
 
 -- it is complete
-pub record Completes (w : Which) (old : StateIn (kind_of w)) (x : ℕ) (published : Published) (new : StateIn
-    (kind_of w)) : Type 0 where
-  pub next : IsNext w old x
-  pub list_is : new.list ≡ (kind_of w).add old.list next.planned
-  pub at_rest : IsAtRest (kind_of w) new
+pub record IsWholePublication (w : Which) (old : StateIn (store_kind w)) (x : ℕ) (published : Published) (new : StateIn
+    (store_kind w)) : Type 0 where
+  pub next : IsDrawnNext w old x
+  pub list_is : new.list ≡ (store_kind w).add old.list next.planned
+  pub at_rest : IsAtRest (store_kind w) new
   pub files_are : published.files ≡ length next.tiles
   pub sum_is : IsSumAt w new.list next.tiles published.sum
 
 -- how far it came: it wasn't begun, it was given up, or it is complete
-pub data CameTo (w : Which) (old : StateIn (kind_of w)) (x : ℕ) (new : StateIn (kind_of w)) : Type 0 where
+pub data CameTo (w : Which) (old : StateIn (store_kind w)) (x : ℕ) (new : StateIn (store_kind w)) : Type 0 where
   not_begun : new.list ≡ old.list → new.going ≡ None → new.halted ≡ None → CameTo w old x new
-  given_up : (next : IsNext w old x) → new.list ≡ old.list → new.going ≡ None
-      → new.halted ≡ Some ((kind_of w).drop next.planned) → CameTo w old x new
-  complete : (next : IsNext w old x) → new.list ≡ (kind_of w).add old.list next.planned → new.going ≡ None
+  given_up : (next : IsDrawnNext w old x) → new.list ≡ old.list → new.going ≡ None
+      → new.halted ≡ Some ((store_kind w).drop next.planned) → CameTo w old x new
+  complete : (next : IsDrawnNext w old x) → new.list ≡ (store_kind w).add old.list next.planned → new.going ≡ None
       → new.halted ≡ None → CameTo w old x new
 
 -- its sources are pending
-pub record HasPending (w : Which) (old : StateIn (kind_of w)) (x : ℕ) (new : StateIn (kind_of w)) : Type 0 where
+pub record HasPending (w : Which) (old : StateIn (store_kind w)) (x : ℕ) (new : StateIn (store_kind w)) : Type 0 where
   pub sources : List Source
   pub drawn : PublicationDrawn x sources
   pub state : new ≡ record old { pending = sources }
 
 -- why the store has no further publication
-abbrev pub StopsBy : (w : Which) → StateIn (kind_of w) → ℕ → PopulateError → StateIn (kind_of w) → Type 0
+abbrev pub StopsBy : (w : Which) → StateIn (store_kind w) → ℕ → PopulateError → StateIn (store_kind w) → Type 0
 StopsBy w old x Memory new = CameTo w old x new
 StopsBy w old x Fault new = CameTo w old x new
-StopsBy w old x (Entries count) new = HasPending w old x new × HasEntriesIn (kind_of w) new count
-StopsBy w old x Versions new = HasPending w old x new × IsFullOfVersionsIn (kind_of w) new
-StopsBy w old x (Damaged expected found) new = (kind_of w).Maybe (CameTo w old x new)
+StopsBy w old x (Entries count) new = HasPending w old x new × HasEntriesIn (store_kind w) new count
+StopsBy w old x Versions new = HasPending w old x new × IsFullOfVersionsIn (store_kind w) new
+StopsBy w old x (Damaged expected found) new = (store_kind w).Maybe (CameTo w old x new)
 
-abbrev pub PublishesIn : (w : Which) → StateIn (kind_of w) → ℕ → Result Published PopulateError
-    → StateIn (kind_of w) → Type 0
-PublishesIn w old x (Ok published) new = Completes w old x published new
+abbrev pub PublishesIn : (w : Which) → StateIn (store_kind w) → ℕ → Result Published PopulateError
+    → StateIn (store_kind w) → Type 0
+PublishesIn w old x (Ok published) new = IsWholePublication w old x published new
 PublishesIn w old x (Err error) new = StopsBy w old x error new
 
 -- ---- a publication is begun
@@ -93,21 +93,21 @@ begun_of (Err publish.Versions) = Err Versions
 begun_of (Err _) = Err Memory
 
 -- the pending sources are going, with all of their steps left
-pub record IsGoingOf (w : Which) (s : StateIn (kind_of w)) (Now : StateIn (kind_of w) → Type 0) : Type 0 where
+pub record IsGoingOf (w : Which) (s : StateIn (store_kind w)) (Now : StateIn (store_kind w) → Type 0) : Type 0 where
   pub tiles : List Tile
   pub touched : Touches (publication_of s.pending) tiles
-  pub planned : (kind_of w).Planned
+  pub planned : (store_kind w).Planned
   pub left : ℕ
-  pub starts : (kind_of w).Starts s.list s.pending tiles planned left
+  pub starts : (store_kind w).Starts s.list s.pending tiles planned left
   pub some : 0 < left
   pub now : Now (record s { pending = []; going = Some record { publication = planned; left = left } })
 
-abbrev pub BeginsDrawn : (w : Which) → StateIn (kind_of w) → Result Unit PopulateError → (StateIn (kind_of w) → Type 0)
+abbrev pub BeginsDrawn : (w : Which) → StateIn (store_kind w) → Result Unit PopulateError → (StateIn (store_kind w) → Type 0)
     → Type 0
 BeginsDrawn w s (Ok _) Now = IsGoingOf w s Now
 BeginsDrawn w s (Err Memory) Now = Now s
-BeginsDrawn w s (Err (Entries count)) Now = Now s × HasEntriesIn (kind_of w) s count
-BeginsDrawn w s (Err Versions) Now = Now s × IsFullOfVersionsIn (kind_of w) s
+BeginsDrawn w s (Err (Entries count)) Now = Now s × HasEntriesIn (store_kind w) s count
+BeginsDrawn w s (Err Versions) Now = Now s × IsFullOfVersionsIn (store_kind w) s
 BeginsDrawn w s (Err _) Now = ⊥
 
 -- ---- its steps
@@ -122,13 +122,13 @@ ended_by (Err advance.Fault) = Some (Err Fault)
 ended_by (Err (advance.Damaged expected found)) = Some (Err (Damaged expected found))
 
 -- all that are left were made, or one of them failed
-abbrev pub Finishes : (w : Which) → StateIn (kind_of w) → (kind_of w).Planned → Result Unit PopulateError
-    → (StateIn (kind_of w) → Type 0) → Type 0
-Finishes w s planned (Ok _) Now = Now (record s { list = (kind_of w).add s.list planned; going = None })
-Finishes w s planned (Err Fault) Now = Now (record s { going = None; halted = Some ((kind_of w).drop planned) })
-Finishes w s planned (Err (Damaged expected found)) Now =
-    (kind_of w).Maybe (Now (record s { going = None; halted = Some ((kind_of w).drop planned) }))
-Finishes w s planned (Err _) Now = ⊥
+abbrev pub FinishesSteps : (w : Which) → StateIn (store_kind w) → (store_kind w).Planned → Result Unit PopulateError
+    → (StateIn (store_kind w) → Type 0) → Type 0
+FinishesSteps w s planned (Ok _) Now = Now (record s { list = (store_kind w).add s.list planned; going = None })
+FinishesSteps w s planned (Err Fault) Now = Now (record s { going = None; halted = Some ((store_kind w).drop planned) })
+FinishesSteps w s planned (Err (Damaged expected found)) Now =
+    (store_kind w).Maybe (Now (record s { going = None; halted = Some ((store_kind w).drop planned) }))
+FinishesSteps w s planned (Err _) Now = ⊥
 
 -- ---- its tiles are asked for
 
@@ -140,14 +140,14 @@ asked_by (Err tile.Fault) = Err Fault
 asked_by (Err (tile.Damaged expected found)) = Err (Damaged expected found)
 
 -- requests leave the state
-abbrev pub Asks : {T : Type 0} → (w : Which) → Result T PopulateError → Type 0 → Type 0
-Asks w (Ok sum) Now = Now
-Asks w (Err Fault) Now = Now
-Asks w (Err (Damaged expected found)) Now = (kind_of w).Maybe Now
-Asks w (Err _) Now = ⊥
+abbrev pub LeavesState : {T : Type 0} → (w : Which) → Result T PopulateError → Type 0 → Type 0
+LeavesState w (Ok sum) Now = Now
+LeavesState w (Err Fault) Now = Now
+LeavesState w (Err (Damaged expected found)) Now = (store_kind w).Maybe Now
+LeavesState w (Err _) Now = ⊥
 
 -- a session is open at a version, and some source up to it reaches each of these tiles
-pub record IsOpenAt (s : State) (id : ℕ) (version : ℕ) (tiles : List Tile) : Type 0 where
+pub record IsOpenAt (s : KnownState) (id : ℕ) (version : ℕ) (tiles : List Tile) : Type 0 where
   pub session : Session
   pub is_open : session_of id s.sessions ≡ Some session
   pub version_is : session.version ≡ version
@@ -172,9 +172,9 @@ pub record LeadsToRest (k : Kind) (list : k.Listed) (Now : StateIn k → Type 0)
   pub now : Now next
 
 -- a session is opened, tiles are asked for in it, and it is closed
-abbrev pub Sums : (w : Which) → (kind_of w).Listed → Result ℤ PopulateError → (StateIn (kind_of w) → Type 0) → Type 0
-Sums w list (Ok sum) Now = LeadsToRest (kind_of w) list Now
-Sums w list (Err Memory) Now = LeadsAfter (kind_of w) list Now
-Sums w list (Err Fault) Now = LeadsAfter (kind_of w) list Now
-Sums w list (Err (Damaged expected found)) Now = (kind_of w).Maybe (LeadsAfter (kind_of w) list Now)
+abbrev pub Sums : (w : Which) → (store_kind w).Listed → Result ℤ PopulateError → (StateIn (store_kind w) → Type 0) → Type 0
+Sums w list (Ok sum) Now = LeadsToRest (store_kind w) list Now
+Sums w list (Err Memory) Now = LeadsAfter (store_kind w) list Now
+Sums w list (Err Fault) Now = LeadsAfter (store_kind w) list Now
+Sums w list (Err (Damaged expected found)) Now = (store_kind w).Maybe (LeadsAfter (store_kind w) list Now)
 Sums w list (Err _) Now = ⊥

@@ -49,7 +49,7 @@ TellsNoStore Tells present (Err Fault) = Unit {0}
 TellsNoStore Tells present (Err (NotAStore version place)) = Tells → IsNoStore present version place
 
 -- a store was found
-abbrev pub IsFound : OpenError → Type 0
-IsFound Memory = Unit {0}
-IsFound Fault = Unit {0}
-IsFound (NotAStore version place) = ⊥
+abbrev pub IsStoreFound : OpenError → Type 0
+IsStoreFound Memory = Unit {0}
+IsStoreFound Fault = Unit {0}
+IsStoreFound (NotAStore version place) = ⊥

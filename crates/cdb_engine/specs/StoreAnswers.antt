@@ -97,9 +97,9 @@ LeftIn k None n = n ≡ 0
 LeftIn k (Some now) n = n ≡ now.left
 
 -- how many steps are left of what an engine works on
-abbrev pub left_in : Option Publication → ℕ
-left_in None = 0
-left_in (Some work) = left_of work
+abbrev pub steps_left : Option Publication → ℕ
+steps_left None = 0
+steps_left (Some work) = left_of work
 
 -- the publication stays where a step was made and others are left, and goes in every other case
 abbrev pub work_after : Result Progress StepError → Publication → Option Publication

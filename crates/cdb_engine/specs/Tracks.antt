@@ -5,7 +5,7 @@ use Rattle.cdb_source.specs.Reached.{Reached}
 use Rattle.cdb_model.specs.Begun.{HasBegun}
 use Rattle.cdb_model.specs.Causes.{Rose}
 use Rattle.cdb_model.specs.Images.{Base, StandsSince}
-use Rattle.cdb_model.specs.KnownStore.{State, Going}
+use Rattle.cdb_model.specs.KnownStore.{KnownState, Going}
 use Rattle.cdb_model.specs.Maps.{FileMap}
 use Rattle.cdb_model.specs.Publications.{Publication, sources_in, sources_of, heads_of, step_count}
 use Rattle.cdb_model.specs.Stands.{Stands}
@@ -51,7 +51,7 @@ pub record IsFileOf (list : List Publication) (k : Kept) : Type 0 where
   pub reached : Reached (heads_of (sources_in x)) k.pair.tile
   pub bytes_are : k.bytes ≡ tile_bytes (sources_of (earlier ++ x ∷ [])) k.pair.tile
 
-pub record Tracks (held : Held) (d : disk.State) (s : State) : Type 0 where
+pub record Tracks (held : Held) (d : disk.State) (s : KnownState) : Type 0 where
   pub records : AreRecords held.chain.records s.list
   pub pending : held.pending ≡ s.pending
   pub sessions : held.sessions ≡ s.sessions
@@ -67,7 +67,7 @@ pub record Origin : Type 0 where
 -- The same of an engine whose run began so: whatever a crash since that moment may have left stands for the list
 -- followed by the first of the publications begun, and where the engine was halted, calls of the disk had failed since.
 pub record Follows (tells : Type 0) (origin : Origin) (clock count : ℕ) (since : ℕ → FileMap → Type 0) (d : disk.State)
-    (held : Held) (s : State) : Type 0 where
+    (held : Held) (s : KnownState) : Type 0 where
   pub told : tells
   pub earlier : origin.store.moment ≤ clock
   pub no_fewer : origin.faults ≤ count

@@ -9,8 +9,8 @@ use Rattle.cdb_model.specs.Text.{last_first}
 use Rattle.cdb_engine.specs.declared.head_words.HeadWords.{HeadWords}
 
 -- what the words of a head say
-abbrev pub head_in : HeadWords → Head
-head_in w = record { kind = w.kind; level = w.level; lat = w.lat; lon = w.lon; dlat = w.dlat; dlon = w.dlon }
+abbrev pub head_of_words : HeadWords → Head
+head_of_words w = record { kind = w.kind; level = w.level; lat = w.lat; lon = w.lon; dlat = w.dlat; dlon = w.dlon }
 
 -- words give no head of so many rows and columns
 abbrev pub SpellsNoHead : Head → ℕ → ℕ → Type 0

@@ -1,10 +1,10 @@
 //! The files of a store are checked.
 ghost use Rattle.std.specs.Prelude.{◌≡◌, None, IfOk};
-ghost use Rattle.cdb_model.specs.KnownStore.{State};
-ghost use Rattle.cdb_model.specs.Stores.{Which, kind_of};
+ghost use Rattle.cdb_model.specs.KnownStore.{KnownState};
+ghost use Rattle.cdb_model.specs.Stores.{Which, store_kind};
 ghost use Rattle.cdb_model.specs.Transitions.{StateIn};
 ghost use Rattle.cdb_check.specs.Expected.{expected_files};
-ghost use Rattle.cdb_check.specs.Outcome.{Finds, Looks, IsCaused, Tells};
+ghost use Rattle.cdb_check.specs.Outcome.{FirstDiffering, OnlyReads, IsFaultCaused, TellsCounts};
 ghost use Rattle.cdb_engine.specs.Checks.{AgreesWith};
 ghost use Rattle.cdb_engine.specs.Stays.{Stays};
 ghost use Rattle.cdb_engine.specs.Tracks.{Origin, Tracks};
@@ -22,15 +22,15 @@ impl Engine {
     /// call of the disk failed. `Memory`: memory for the sources or for a tile was refused.
     pub fn check<D: Disk>(&self, alloc: Global, disk: &mut D) -> Result<Agreed, CheckError>
         ensures finds { D.tells
-            → Finds (D.state disk.old).present (expected_files self.now.chain.records) result }
-        ensures told { IfOk result (Tells self.now.chain.records) }
-        ensures agrees { D.tells → (s : State) → Tracks self.now (D.state disk.old) s → s.halted ≡ None
+            → FirstDiffering (D.state disk.old).present (expected_files self.now.chain.records) result }
+        ensures told { IfOk result (TellsCounts self.now.chain.records) }
+        ensures agrees { D.tells → (s : KnownState) → Tracks self.now (D.state disk.old) s → s.halted ≡ None
             → AgreesWith s.list result }
-        ensures stays { (w : Which) (origin : Origin) (s : StateIn (kind_of w))
+        ensures stays { (w : Which) (origin : Origin) (s : StateIn (store_kind w))
             → Stays D.tells D.clock D.fault_count D.since D.state origin disk.old self.now w s
             → Stays D.tells D.clock D.fault_count D.since D.state origin disk.new self.now w s }
-        ensures looks { Looks D.clock D.since D.state D.fault_count disk.old disk.new }
-        ensures cause { IsCaused (D.fault_count disk.old) (D.fault_count disk.new) result }
+        ensures looks { OnlyReads D.clock D.since D.state D.fault_count disk.old disk.new }
+        ensures cause { IsFaultCaused (D.fault_count disk.old) (D.fault_count disk.new) result }
     {
         check(alloc, &self.chain, disk)
     }

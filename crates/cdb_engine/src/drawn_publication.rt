@@ -1,11 +1,11 @@
 //! One publication that is drawn.
 ghost use Rattle.std.specs.Prelude.{◌≡◌, ℕ, None, IfErr, ◌≤◌, ◌<◌, Some, Err, IfSome, pos, negsuc, ◌≤ℤ◌, length, IfOk, OnOk};
-ghost use Rattle.cdb_model.specs.Stores.{Which, kind_of, any_store};
+ghost use Rattle.cdb_model.specs.Stores.{Which, store_kind, any_store};
 ghost use Rattle.cdb_model.specs.Transitions.{StateIn, GoingIn};
 ghost use Rattle.cdb_engine.specs.Stays.{Stays, bare_of};
 ghost use Rattle.cdb_engine.specs.Tracks.{Origin, Leads};
 ghost use Rattle.cdb_generate.specs.Generator.{PublicationDrawn, state_next};
-ghost use Rattle.cdb_engine.specs.Populating.{begun_of, BeginsDrawn, ended_by, Finishes, IsAtRest, PublishesIn};
+ghost use Rattle.cdb_engine.specs.Populating.{begun_of, BeginsDrawn, ended_by, FinishesSteps, IsAtRest, PublishesIn};
 ghost use Rattle.cdb_model.specs.Causes.{Rose};
 ghost use Rattle.cdb_engine.specs.StoreAnswers.{AdvanceCause};
 
@@ -28,7 +28,7 @@ pub struct Published {
 
 /// Whether a publication was begun. Where sources that are drawn are pending and nothing is going, it is
 /// refused for want of memory, entries or versions alone.
-fn begun(answer: Result<Begun, PublishError>) -> Result<(), PopulateError>
+fn begin_error(answer: Result<Begun, PublishError>) -> Result<(), PopulateError>
     ensures begun { result ≡ begun_of answer }
     ensures no_fault { IfErr result (λ error. error ≡ PopulateError.Fault → ⊥) }
 {
@@ -46,18 +46,18 @@ fn begin_drawn<D: Disk>(
     engine: &mut Engine,
     disk: &mut D,
 ) -> Result<(), PopulateError>
-    ensures begins { (w : Which) (origin : Origin) (s : StateIn (kind_of w)) (x : ℕ)
+    ensures begins { (w : Which) (origin : Origin) (s : StateIn (store_kind w)) (x : ℕ)
         → Stays D.tells D.clock D.fault_count D.since D.state origin disk.old engine.old w s
         → s.halted ≡ None → s.going ≡ None → PublicationDrawn x s.pending
         → BeginsDrawn w s result (Stays D.tells D.clock D.fault_count D.since D.state origin disk.new engine.new w) }
     ensures disk { disk.new ≡ disk.old }
     ensures no_fault { IfErr result (λ error. error ≡ PopulateError.Fault → ⊥) }
 {
-    begun(engine.publish(alloc, disk))
+    begin_error(engine.publish(alloc, disk))
 }
 
 /// How the steps end with one that was tried: not yet, where others are left.
-fn ended(step: Result<Progress, AdvanceError>) -> Option<Result<(), PopulateError>>
+fn step_end(step: Result<Progress, AdvanceError>) -> Option<Result<(), PopulateError>>
     ensures ended { result ≡ ended_by step }
     ensures cause { (before now : ℕ) → AdvanceCause step before now
         → IfSome result (λ end. end ≡ Err PopulateError.Fault → Rose before now) }
@@ -76,17 +76,17 @@ fn ended(step: Result<Progress, AdvanceError>) -> Option<Result<(), PopulateErro
 
 /// Makes all steps that are left of the publication that is going.
 fn finish<D: Disk>(engine: &mut Engine, disk: &mut D) -> Result<(), PopulateError>
-    ensures finishes { (w : Which) (origin : Origin) (s : StateIn (kind_of w)) (now : GoingIn (kind_of w))
+    ensures finishes { (w : Which) (origin : Origin) (s : StateIn (store_kind w)) (now : GoingIn (store_kind w))
         → Stays D.tells D.clock D.fault_count D.since D.state origin disk.old engine.old w s
         → s.going ≡ Some now → s.halted ≡ None → 0 < now.left
-        → Finishes w s now.publication result
+        → FinishesSteps w s now.publication result
         (Stays D.tells D.clock D.fault_count D.since D.state origin disk.new engine.new w) }
     ensures later { D.fault_count disk.old ≤ D.fault_count disk.new }
     ensures cause { result ≡ Err PopulateError.Fault → Rose (D.fault_count disk.old) (D.fault_count disk.new) }
 {
     let left = engine.left();
     for _ in 0..left {
-        match ended(engine.step(disk)) {
+        match step_end(engine.step(disk)) {
             None => (),
             Some(end) => return end,
         }
@@ -107,8 +107,8 @@ pub fn publish_one<D: Disk>(
 ) -> Result<Published, PopulateError>
     requires frame { length frame.old ≡ 1048576 }
     requires rest { IsAtRest any_store (bare_of engine.old) }
-    ensures publishes { (w : Which) (origin : Origin) (s : StateIn (kind_of w))
-        → Stays D.tells D.clock D.fault_count D.since D.state origin disk.old engine.old w s → IsAtRest (kind_of w) s
+    ensures publishes { (w : Which) (origin : Origin) (s : StateIn (store_kind w))
+        → Stays D.tells D.clock D.fault_count D.since D.state origin disk.old engine.old w s → IsAtRest (store_kind w) s
         → Leads (PublishesIn w s state.old result)
         (Stays D.tells D.clock D.fault_count D.since D.state origin disk.new engine.new w) }
     ensures state { OnOk result (state.new ≡ state_next state.old) }

@@ -3,15 +3,15 @@ ghost use Rattle.cdb_source.specs.declared.source.Source as given;
 ghost use Rattle.cdb_model.specs.Causes.{Rose};
 ghost use Rattle.cdb_model.specs.Events as machine;
 ghost use Rattle.cdb_model.specs.Grammar.{InlineSource, FileSource};
-ghost use Rattle.cdb_model.specs.KnownStore.{State};
+ghost use Rattle.cdb_model.specs.KnownStore.{KnownState};
 ghost use Rattle.cdb_model.specs.Maps.{Content};
-ghost use Rattle.cdb_model.specs.Stores.{Which, kind_of};
-ghost use Rattle.cdb_model.specs.Transitions.{StateIn, IsReadyIn, GivesIn, LoadsIn, ConnectsIn, AsksIn, DisconnectsIn, TellsIn};
+ghost use Rattle.cdb_model.specs.Stores.{Which, store_kind};
+ghost use Rattle.cdb_model.specs.Transitions.{StateIn, IsReadyIn, InlineLineIn, SourceLineIn, OpenLineIn, TileLineIn, CloseLineIn, VersionsLineIn};
 ghost use Rattle.cdb_files.specs.Moments.{AddsOnly, Rests};
-ghost use Rattle.cdb_sessions.specs.Sessions.{IsServed, AreCurrent, ServesCurrent};
+ghost use Rattle.cdb_sessions.specs.Sessions.{TileOutcome, AreCurrent, ServesCurrent};
 ghost use Rattle.cdb_engine.specs.Held.{sessions_part};
 ghost use Rattle.cdb_engine.specs.StepSizes.{TellsStep};
-ghost use Rattle.cdb_engine.specs.StoreAnswers.{ready_answer, session_answer, close_answer, advance_answer, tile_answer, HasBytes, TriesIn, HaltsBy, AdvanceCause, left_in};
+ghost use Rattle.cdb_engine.specs.StoreAnswers.{ready_answer, session_answer, close_answer, advance_answer, tile_answer, HasBytes, TriesIn, HaltsBy, AdvanceCause, steps_left};
 ghost use Rattle.cdb_engine.specs.Stays.{Stays, Shows, ChangesAlike};
 ghost use Rattle.cdb_engine.specs.Tracks.{Origin, Tracks, Leads, DuringNow};
 
@@ -59,12 +59,12 @@ impl Engine {
     /// Whether a source can be submitted. `Halted` comes first: a step of this opening failed or found
     /// a file damaged. Then `Busy`: a publication is going. `Full`: 64 sources are pending.
     pub fn ready(&self) -> Result<(), ReadyError>
-        ensures ok { (w : Which) (s : StateIn (kind_of w)) → Shows self.now w s
-            → OnOk result (IsReadyIn (kind_of w) s) }
-        ensures gives { IfErr result (λ error. (w : Which) (s : StateIn (kind_of w)) (words : InlineSource)
-            → Shows self.now w s → GivesIn (kind_of w) s words (ready_answer error) s) }
-        ensures loads { IfErr result (λ error. (w : Which) (s : StateIn (kind_of w)) (words : FileSource)
-            (content : Content) → Shows self.now w s → LoadsIn (kind_of w) s words content (ready_answer error) s) }
+        ensures ok { (w : Which) (s : StateIn (store_kind w)) → Shows self.now w s
+            → OnOk result (IsReadyIn (store_kind w) s) }
+        ensures gives { IfErr result (λ error. (w : Which) (s : StateIn (store_kind w)) (words : InlineSource)
+            → Shows self.now w s → InlineLineIn (store_kind w) s words (ready_answer error) s) }
+        ensures loads { IfErr result (λ error. (w : Which) (s : StateIn (store_kind w)) (words : FileSource)
+            (content : Content) → Shows self.now w s → SourceLineIn (store_kind w) s words content (ready_answer error) s) }
         ensures running { OnOk result (self.now.halted ≡ None) }
         ensures idle { OnOk result (self.now.work ≡ None) }
         ensures room { OnOk result (length self.now.pending < 64) }
@@ -89,7 +89,7 @@ impl Engine {
 
     /// How many steps are left of the publication that is going, 0 where none is.
     pub fn left(&self) -> u32
-        ensures { result ≡ left_in self.now.work }
+        ensures { result ≡ steps_left self.now.work }
     {
         match &self.work {
             Some(work) => work.left(),
@@ -106,8 +106,8 @@ impl Engine {
 
     /// The newest version.
     pub fn versions(&self) -> u32
-        ensures tells { (w : Which) (s : StateIn (kind_of w)) → Shows self.now w s
-            → TellsIn (kind_of w) s (machine.versions result) s }
+        ensures tells { (w : Which) (s : StateIn (store_kind w)) → Shows self.now w s
+            → VersionsLineIn (store_kind w) s (machine.versions result) s }
         ensures value { result ≡ length self.now.chain.records }
         ensures most { result ≤ 4096 }
     {
@@ -139,11 +139,11 @@ impl Engine {
     /// another size than its form gives, with the sizes of the first such file: the publication is given
     /// up then, and the writer halted at the count of failed calls that the disk tells. It takes no memory.
     pub fn step<D: Disk>(&mut self, disk: &mut D) -> Result<Progress, AdvanceError>
-        ensures step { (w : Which) (origin : Origin) (s : StateIn (kind_of w))
+        ensures step { (w : Which) (origin : Origin) (s : StateIn (store_kind w))
             → Stays D.tells D.clock D.fault_count D.since D.state origin disk.old self.old w s
-            → Leads (TriesIn (kind_of w) s (advance_answer result))
+            → Leads (TriesIn (store_kind w) s (advance_answer result))
             (Stays D.tells D.clock D.fault_count D.since D.state origin disk.new self.new w) }
-        ensures moments { (s : State) → D.tells → Tracks self.old (D.state disk.old) s
+        ensures moments { (s : KnownState) → D.tells → Tracks self.old (D.state disk.old) s
             → AddsOnly D.clock D.since disk.old disk.new (DuringNow s.list s.going) }
         ensures sizes { IfSome self.old.work (λ work. TellsStep D.tells (D.state disk.old).present work
             self.old.chain.records (D.read_count disk.old) (D.read_count disk.new) result) }
@@ -173,8 +173,8 @@ impl Engine {
     /// Opens a session at the newest version. Numbers are 1, 2, 3 and so on, and none is used again.
     /// `Many`: 64 sessions are open. `Memory`: memory was refused, or `2^32 - 1` sessions were opened.
     pub fn open_session(&mut self) -> Result<Opened, SessionError>
-        ensures connects { (w : Which) (s : StateIn (kind_of w)) → Shows self.old w s
-            → Leads (ConnectsIn (kind_of w) s (session_answer result)) (ChangesAlike self.old self.new w s) }
+        ensures connects { (w : Which) (s : StateIn (store_kind w)) → Shows self.old w s
+            → Leads (OpenLineIn (store_kind w) s (session_answer result)) (ChangesAlike self.old self.new w s) }
         ensures reply { self.new.reply ≡ self.old.reply }
         ensures kept { self.new.kept ≡ self.old.kept }
     {
@@ -187,8 +187,8 @@ impl Engine {
 
     /// Ends the session of this number. `Unknown`: no session of that number is open.
     pub fn close_session(&mut self, id: u32) -> Result<(), Unknown>
-        ensures disconnects { (w : Which) (s : StateIn (kind_of w)) → Shows self.old w s
-            → Leads (DisconnectsIn (kind_of w) s id (close_answer result)) (ChangesAlike self.old self.new w s) }
+        ensures disconnects { (w : Which) (s : StateIn (store_kind w)) → Shows self.old w s
+            → Leads (CloseLineIn (store_kind w) s id (close_answer result)) (ChangesAlike self.old self.new w s) }
         ensures reply { self.new.reply ≡ self.old.reply }
         ensures kept { self.new.kept ≡ self.old.kept }
     {
@@ -203,12 +203,12 @@ impl Engine {
     /// that number is open. `Fault` only where a call of the disk failed. `Damaged`: the tile's file
     /// isn't kept, and isn't there or has another size than its form gives.
     pub fn tile<D: Disk>(&mut self, id: u32, tile: &Tile, disk: &mut D) -> Result<Reply, TileError>
-        ensures asks { (w : Which) (origin : Origin) (s : StateIn (kind_of w))
+        ensures asks { (w : Which) (origin : Origin) (s : StateIn (store_kind w))
             → Stays D.tells D.clock D.fault_count D.since D.state origin disk.old self.old w s
-            → Leads (AsksIn (kind_of w) s id tile.now (tile_answer result self.new.reply))
+            → Leads (TileLineIn (store_kind w) s id tile.now (tile_answer result self.new.reply))
             (Stays D.tells D.clock D.fault_count D.since D.state origin disk.new self.new w) }
         ensures same { self.new ≡ record self.old { kept = self.new.kept; reply = self.new.reply } }
-        ensures served { IsServed D.tells (D.state disk.old).present disk.old disk.new self.old.chain id tile.now
+        ensures served { TileOutcome D.tells (D.state disk.old).present disk.old disk.new self.old.chain id tile.now
             (sessions_part self.old) (sessions_part self.new) result }
         ensures current { D.tells → AreCurrent (D.state disk.old).present self.old.kept
             → ServesCurrent (D.state disk.old).present self.old.sessions self.old.chain id tile.now

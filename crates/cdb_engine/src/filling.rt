@@ -4,7 +4,7 @@ ghost use Rattle.cdb_files.specs.Disk.{IsImage};
 ghost use Rattle.cdb_model.specs.Causes.{Rose};
 ghost use Rattle.cdb_model.specs.Images.{Base};
 ghost use Rattle.cdb_model.specs.KnownStore.{start_at};
-ghost use Rattle.cdb_model.specs.Stores.{Which, kind_of, known, any_store};
+ghost use Rattle.cdb_model.specs.Stores.{Which, store_kind, known, any_store};
 ghost use Rattle.cdb_model.specs.Transitions.{StateIn};
 ghost use Rattle.cdb_engine.specs.Stays.{Stays, bare_of};
 ghost use Rattle.cdb_engine.specs.Tracks.{Origin, Leads};
@@ -47,8 +47,8 @@ fn fill<D: Disk>(
 ) -> Result<Published, PopulateError>
     requires frame { length frame.old ≡ 1048576 }
     requires rest { IsAtRest any_store (bare_of engine.old) }
-    ensures fills { (w : Which) (origin : Origin) (s : StateIn (kind_of w))
-        → Stays D.tells D.clock D.fault_count D.since D.state origin disk.old engine.old w s → IsAtRest (kind_of w) s
+    ensures fills { (w : Which) (origin : Origin) (s : StateIn (store_kind w))
+        → Stays D.tells D.clock D.fault_count D.since D.state origin disk.old engine.old w s → IsAtRest (store_kind w) s
         → Leads (FillsIn w s start count result)
         (Stays D.tells D.clock D.fault_count D.since D.state origin disk.new engine.new w) }
     ensures later { D.fault_count disk.old ≤ D.fault_count disk.new }
@@ -85,8 +85,8 @@ pub fn populate<D: Disk>(
     count: u8,
 ) -> Result<Made, PopulateError>
     requires rest { IsAtRest any_store (bare_of engine.old) }
-    ensures follows { (w : Which) (origin : Origin) (s : StateIn (kind_of w))
-        → Stays D.tells D.clock D.fault_count D.since D.state origin disk.old engine.old w s → IsAtRest (kind_of w) s
+    ensures follows { (w : Which) (origin : Origin) (s : StateIn (store_kind w))
+        → Stays D.tells D.clock D.fault_count D.since D.state origin disk.old engine.old w s → IsAtRest (store_kind w) s
         → Leads (PopulatesIn w s start count result)
         (Stays D.tells D.clock D.fault_count D.since D.state origin disk.new engine.new w) }
     ensures populates { (base : Base) (faults : ℕ)

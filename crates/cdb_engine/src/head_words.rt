@@ -3,7 +3,7 @@ ghost use Rattle.std.specs.Prelude.{◌≡◌, ℤ, MatchOption};
 ghost use Rattle.cdb_grid.specs.declared.level.Level as model;
 ghost use Rattle.cdb_model.specs.Grammar.{inline_in, file_in};
 ghost use Rattle.cdb_model.specs.Spelled.{IsUnits, SpellsHead};
-ghost use Rattle.cdb_engine.specs.Words.{head_in, SpellsNoHead};
+ghost use Rattle.cdb_engine.specs.Words.{head_of_words, SpellsNoHead};
 
 use cdb_grid::{Arc, Fraction, Level};
 use cdb_model::{InlineWords, LoadWords};
@@ -23,7 +23,7 @@ pub struct HeadWords {
 
 /// The head's words of an order with posts.
 pub fn of_inline(order: &InlineWords) -> HeadWords
-    ensures { head_in result ≡ (inline_in order.now).head }
+    ensures { head_of_words result ≡ (inline_in order.now).head }
 {
     HeadWords {
         kind: order.kind,
@@ -37,7 +37,7 @@ pub fn of_inline(order: &InlineWords) -> HeadWords
 
 /// The head's words of an order with a file.
 pub fn of_file(order: &LoadWords) -> HeadWords
-    ensures { head_in result ≡ (file_in order.now).head }
+    ensures { head_of_words result ≡ (file_in order.now).head }
 {
     HeadWords {
         kind: order.kind,
@@ -67,8 +67,8 @@ fn arc(fraction: &Fraction) -> Option<Arc>
 
 /// The head that the words give with so many rows and columns, if there is one.
 pub fn head_of(words: &HeadWords, rows: u32, cols: u32) -> Option<SourceHead>
-    ensures { MatchOption result (SpellsNoHead (head_in words.now) rows cols)
-        (SpellsHead (head_in words.now) rows cols) }
+    ensures { MatchOption result (SpellsNoHead (head_of_words words.now) rows cols)
+        (SpellsHead (head_of_words words.now) rows cols) }
 {
     let level = level(words)?;
     let lat = arc(&words.lat)?;

@@ -9,7 +9,7 @@ ghost use Rattle.cdb_model.specs.Transitions.{IsFreshIn};
 ghost use Rattle.cdb_files.specs.Moments.{AddsOnly};
 ghost use Rattle.cdb_engine.specs.Checks.{AreOpened};
 ghost use Rattle.cdb_engine.specs.Stays.{bare_of};
-ghost use Rattle.cdb_engine.specs.Store.{IsStore, IsFound, TellsNoStore, open_error_of};
+ghost use Rattle.cdb_engine.specs.Store.{IsStore, IsStoreFound, TellsNoStore, open_error_of};
 ghost use Rattle.cdb_engine.specs.Tracks.{Tracks};
 
 use crate::engine::Engine;
@@ -20,7 +20,7 @@ use cdb_sessions::Sessions;
 use std::alloc::Global;
 
 /// Why recovery failed, as why opening did.
-fn unrecovered(error: RecoverError) -> OpenError
+fn recovery_error(error: RecoverError) -> OpenError
     ensures { result ≡ open_error_of error }
 {
     match error {
@@ -47,14 +47,14 @@ impl Engine {
             → IsStore list early (D.state disk.old)
             → AddsOnly D.clock D.since disk.old disk.new (StandsForOne (list ∷ early)) }
         ensures store { D.tells → (list : List (List given.Source)) (early : List (List (List given.Source)))
-            → IsStore list early (D.state disk.old) → IfErr result IsFound }
+            → IsStore list early (D.state disk.old) → IfErr result IsStoreFound }
         ensures no_store { TellsNoStore D.tells (D.state disk.old).present result }
         ensures later { D.fault_count disk.old ≤ D.fault_count disk.new }
         ensures cause { result ≡ Err OpenError.Fault → Rose (D.fault_count disk.old) (D.fault_count disk.new) }
     {
         let newest = match recover(disk) {
             Ok(newest) => newest,
-            Err(error) => return Err(unrecovered(error)),
+            Err(error) => return Err(recovery_error(error)),
         };
         let chain = match Chain::open(alloc, disk, newest) {
             Ok(chain) => chain,

@@ -3,7 +3,7 @@ ghost use Rattle.std.specs.Prelude.{◌≡◌, ◌*◌, length, IfOk, OnOk, OnEr
 ghost use Rattle.cdb_source.specs.Posts.{IsAllowed, none_of};
 ghost use Rattle.cdb_model.specs.Grammar.{inline_in};
 ghost use Rattle.cdb_model.specs.ImageFiles.{SpellsNone};
-ghost use Rattle.cdb_model.specs.Spelled.{SpellsSource, row_of_posts};
+ghost use Rattle.cdb_model.specs.Spelled.{SpellsSource, spelled_row};
 ghost use Rattle.cdb_model.specs.Text.{last_first};
 ghost use Rattle.cdb_engine.specs.Words.{HasRows};
 
@@ -35,10 +35,10 @@ fn push_posts(
     requires rows { rows ≡ maker.old.head.rows }
     requires cols { cols ≡ maker.old.head.cols }
     requires length { length posts.now ≡ rows * cols }
-    requires fresh { HasRows maker.old.head novalue (row_of_posts cols posts.now) 0 maker.old }
-    ensures ok { OnOk result (HasRows maker.old.head novalue (row_of_posts cols posts.now) rows maker.new) }
+    requires fresh { HasRows maker.old.head novalue (spelled_row cols posts.now) 0 maker.old }
+    ensures ok { OnOk result (HasRows maker.old.head novalue (spelled_row cols posts.now) rows maker.new) }
     ensures err { OnErr result (All (IsAllowed maker.old.head.kind novalue)
-        (last_first rows (row_of_posts cols posts.now)) → ⊥) }
+        (last_first rows (spelled_row cols posts.now)) → ⊥) }
 {
     for row in 0..rows {
         let from = row * cols;

@@ -1,7 +1,7 @@
 //! A publication is begun.
 ghost use Rattle.std.specs.Prelude.{◌≡◌, OnErr};
-ghost use Rattle.cdb_model.specs.Stores.{Which, kind_of};
-ghost use Rattle.cdb_model.specs.Transitions.{StateIn, BeginsIn};
+ghost use Rattle.cdb_model.specs.Stores.{Which, store_kind};
+ghost use Rattle.cdb_model.specs.Transitions.{StateIn, PublishLineIn};
 ghost use Rattle.cdb_engine.specs.StoreAnswers.{publish_answer, IsSameButRoom};
 ghost use Rattle.cdb_engine.specs.Stays.{Stays};
 ghost use Rattle.cdb_engine.specs.Tracks.{Origin, Leads};
@@ -24,9 +24,9 @@ impl Engine {
     /// 16,384. `Entries`: the tile entries of all records would be `count`, above 1,000,000.
     /// `Versions`: there are 4,096 versions. `Memory`: memory was refused.
     pub fn publish<D: Disk>(&mut self, alloc: Global, disk: &mut D) -> Result<Begun, PublishError>
-        ensures begins { (w : Which) (origin : Origin) (s : StateIn (kind_of w))
+        ensures begins { (w : Which) (origin : Origin) (s : StateIn (store_kind w))
             → Stays D.tells D.clock D.fault_count D.since D.state origin disk.old self.old w s
-            → Leads (BeginsIn (kind_of w) s (publish_answer result))
+            → Leads (PublishLineIn (store_kind w) s (publish_answer result))
             (Stays D.tells D.clock D.fault_count D.since D.state origin disk.new self.new w) }
         ensures err { OnErr result (IsSameButRoom self.old self.new) }
         ensures halted { self.new.halted ≡ self.old.halted }

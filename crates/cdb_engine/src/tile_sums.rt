@@ -4,14 +4,14 @@ ghost use Rattle.cdb_source.specs.declared.source.Source as sources;
 ghost use Rattle.cdb_model.specs.TileFile.{tile_bytes};
 ghost use Rattle.cdb_generate.specs.Sums.{tile_sum, tiles_sum};
 ghost use Rattle.cdb_model.specs.Causes.{Rose};
-ghost use Rattle.cdb_model.specs.KnownStore.{State};
+ghost use Rattle.cdb_model.specs.KnownStore.{KnownState};
 ghost use Rattle.cdb_model.specs.Publications.{sources_of, sources_up_to, heads_of};
-ghost use Rattle.cdb_model.specs.Stores.{Which, kind_of, known};
+ghost use Rattle.cdb_model.specs.Stores.{Which, store_kind, known};
 ghost use Rattle.cdb_model.specs.Transitions.{StateIn};
 ghost use Rattle.cdb_source.specs.Reached.{Reached};
 ghost use Rattle.cdb_engine.specs.Stays.{Stays};
 ghost use Rattle.cdb_engine.specs.Tracks.{Origin};
-ghost use Rattle.cdb_engine.specs.Populating.{asked_by, Asks, IsAtRest, IsOpenAt, Sums};
+ghost use Rattle.cdb_engine.specs.Populating.{asked_by, LeavesState, IsAtRest, IsOpenAt, Sums};
 
 use crate::engine::Engine;
 use crate::errors::PopulateError;
@@ -41,7 +41,7 @@ fn sum_of_file(bytes: &[u8], tile: &Tile, frame: &mut [i16]) -> i64
 }
 
 /// Whether a request for a tile was answered.
-fn asked(answer: Result<Reply, TileError>) -> Result<(), PopulateError>
+fn tile_error(answer: Result<Reply, TileError>) -> Result<(), PopulateError>
     ensures asked { result ≡ asked_by answer }
     ensures fault { result ≡ Err PopulateError.Fault → answer ≡ Err TileError.Fault }
 {
@@ -64,10 +64,10 @@ fn sum_tile<D: Disk>(
     frame: &mut [i16],
 ) -> Result<i64, PopulateError>
     requires frame { length frame.old ≡ 1048576 }
-    ensures asks { (w : Which) (origin : Origin) (s : StateIn (kind_of w))
+    ensures asks { (w : Which) (origin : Origin) (s : StateIn (store_kind w))
         → Stays D.tells D.clock D.fault_count D.since D.state origin disk.old engine.old w s
-        → Asks w result (Stays D.tells D.clock D.fault_count D.since D.state origin disk.new engine.new w s) }
-    ensures sum { (origin : Origin) (s : State) (version : ℕ)
+        → LeavesState w result (Stays D.tells D.clock D.fault_count D.since D.state origin disk.new engine.new w s) }
+    ensures sum { (origin : Origin) (s : KnownState) (version : ℕ)
         → Stays D.tells D.clock D.fault_count D.since D.state origin disk.old engine.old known s
         → IsOpenAt s id version (tile.now ∷ [])
         → IfOk result (λ sum. sum ≡ tile_sum (sources_up_to version s.list) tile.now) }
@@ -77,7 +77,7 @@ fn sum_tile<D: Disk>(
     ensures later { D.fault_count disk.old ≤ D.fault_count disk.new }
     ensures cause { result ≡ Err PopulateError.Fault → Rose (D.fault_count disk.old) (D.fault_count disk.new) }
 {
-    match asked(engine.tile(id, tile, disk)) {
+    match tile_error(engine.tile(id, tile, disk)) {
         Ok(()) => Ok(sum_of_file(engine.reply(), tile, frame)),
         Err(error) => Err(error),
     }
@@ -93,10 +93,10 @@ fn sum_tiles<D: Disk>(
 ) -> Result<i64, PopulateError>
     requires frame { length frame.old ≡ 1048576 }
     requires few { length tiles.now ≤ 16384 }
-    ensures asks { (w : Which) (origin : Origin) (s : StateIn (kind_of w))
+    ensures asks { (w : Which) (origin : Origin) (s : StateIn (store_kind w))
         → Stays D.tells D.clock D.fault_count D.since D.state origin disk.old engine.old w s
-        → Asks w result (Stays D.tells D.clock D.fault_count D.since D.state origin disk.new engine.new w s) }
-    ensures sum { (origin : Origin) (s : State) (version : ℕ)
+        → LeavesState w result (Stays D.tells D.clock D.fault_count D.since D.state origin disk.new engine.new w s) }
+    ensures sum { (origin : Origin) (s : KnownState) (version : ℕ)
         → Stays D.tells D.clock D.fault_count D.since D.state origin disk.old engine.old known s
         → IsOpenAt s id version tiles.now
         → IfOk result (λ sum. sum ≡ tiles_sum (sources_up_to version s.list) tiles.now) }
@@ -126,12 +126,12 @@ pub(crate) fn sum_newest<D: Disk>(
 ) -> Result<i64, PopulateError>
     requires frame { length frame.old ≡ 1048576 }
     requires few { length tiles.now ≤ 16384 }
-    ensures sums { (w : Which) (origin : Origin) (s : StateIn (kind_of w))
-        → Stays D.tells D.clock D.fault_count D.since D.state origin disk.old engine.old w s → IsAtRest (kind_of w) s
+    ensures sums { (w : Which) (origin : Origin) (s : StateIn (store_kind w))
+        → Stays D.tells D.clock D.fault_count D.since D.state origin disk.old engine.old w s → IsAtRest (store_kind w) s
         → Sums w s.list result (Stays D.tells D.clock D.fault_count D.since D.state origin disk.new engine.new w) }
-    ensures sum { (origin : Origin) (s : State)
+    ensures sum { (origin : Origin) (s : KnownState)
         → Stays D.tells D.clock D.fault_count D.since D.state origin disk.old engine.old known s
-        → IsAtRest (kind_of known) s → All (λ t. Reached (heads_of (sources_of s.list)) t) tiles.now
+        → IsAtRest (store_kind known) s → All (λ t. Reached (heads_of (sources_of s.list)) t) tiles.now
         → IfOk result (λ sum. sum ≡ tiles_sum (sources_of s.list) tiles.now) }
     ensures least { IfOk result (λ sum. negsuc 562949953421311 ≤ℤ sum) }
     ensures most { IfOk result (λ sum. sum ≤ℤ pos 562949953421312) }

@@ -45,10 +45,10 @@ settled now None = Some (None ∷ now ∷ [])
 settled now (Some xs) = Some xs
 
 -- A path in a synced folder: a list, or anything where no file is present, becomes the present state alone.
-abbrev pub kept : Content → Possible → Possible
-kept now (Some xs) = Some (now ∷ [])
-kept None None = Some (None ∷ [])
-kept (Some bytes) None = None
+abbrev pub after_sync : Content → Possible → Possible
+after_sync now (Some xs) = Some (now ∷ [])
+after_sync None None = Some (None ∷ [])
+after_sync (Some bytes) None = None
 
 -- One possibility more, at the end of a list.
 abbrev pub added : Content → Possible → Possible
@@ -67,7 +67,7 @@ unfoldable pub after_sync_file : Text → State → State
 after_sync_file path s = record s { may = put s.may path (settled (s.present path) (s.may path)) }
 
 unfoldable pub after_sync_dir : Text → State → State
-after_sync_dir folder s = record s { may = λ q. if bytes_eq (folder_above q) folder then kept (s.present q) (s.may q) else s.may q }
+after_sync_dir folder s = record s { may = λ q. if bytes_eq (folder_above q) folder then after_sync (s.present q) (s.may q) else s.may q }
 
 -- `to` has the bytes of `from`, which is absent. A crash may leave at `to` what it might before or these bytes, and at `from` nothing or these bytes.
 unfoldable pub after_rename : Text → Text → State → State

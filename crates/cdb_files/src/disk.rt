@@ -1,6 +1,6 @@
 ghost use Rattle.std.specs.Prelude.{◌≡◌, ◌≢◌, ◌≤◌, ◌+◌, ℕ, length, take, IfOk, OnOk, OnErr, MatchOption};
 ghost use Rattle.cdb_model.specs.Causes.{HasCause};
-ghost use Rattle.cdb_model.specs.Maps.{FileMap, folder_above, size_of, Reaches, HasAt, IsThere, NoneUnder, IsFirstUnder};
+ghost use Rattle.cdb_model.specs.Maps.{FileMap, folder_above, size_of, HasBytesUpTo, HasAt, IsThere, NoneUnder, IsFirstUnder};
 ghost use Rattle.cdb_files.specs.Disk.{State, IsImage, IsMade, IsSettledAt, after_create, after_append, after_sync_file, after_sync_dir, after_rename, after_remove, after_make_dir, Fails, FailsAppend, FailsMakeDir, Moves};
 ghost use Rattle.cdb_files.specs.Moments.{IsBetween, Elapses, Rests};
 
@@ -40,7 +40,7 @@ pub trait Disk {
 
     /// Fills `into` with the bytes of the file from `at` on. Where it fails, `into` may have any bytes.
     fn read_at(&mut self, path: &Path, at: u64, into: &mut [u8]) -> Result<(), Failed>
-        requires { tells → Reaches ((state self.old).present path.now.bytes) at (length into.old) }
+        requires { tells → HasBytesUpTo ((state self.old).present path.now.bytes) at (length into.old) }
         ensures bytes { tells → OnOk result (HasAt ((state self.old).present path.now.bytes) at into.new) }
         ensures state { state self.new ≡ state self.old }
         ensures time { Rests (clock self.old) (clock self.new) (since self.old) (since self.new) }

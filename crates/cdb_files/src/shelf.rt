@@ -1,6 +1,6 @@
 ghost use Rattle.std.specs.Prelude.{◌≡◌, ◌≤◌, ℕ, length, IfOk, OnOk};
 ghost use Rattle.cdb_model.specs.Causes.{HasCause};
-ghost use Rattle.cdb_model.specs.Maps.{FileMap, size_of, Reaches, HasAt};
+ghost use Rattle.cdb_model.specs.Maps.{FileMap, size_of, HasBytesUpTo, HasAt};
 
 use crate::{Failed, Path};
 
@@ -23,7 +23,7 @@ pub trait Shelf {
 
     /// Fills `into` with the bytes of the file from `at` on. Where it fails, `into` may have any bytes.
     fn read_at(&mut self, path: &Path, at: u64, into: &mut [u8]) -> Result<(), Failed>
-        requires { tells → Reaches (files self.old path.now.bytes) at (length into.old) }
+        requires { tells → HasBytesUpTo (files self.old path.now.bytes) at (length into.old) }
         ensures bytes { tells → OnOk result (HasAt (files self.old path.now.bytes) at into.new) }
         ensures files { files self.new ≡ files self.old }
         ensures cause { HasCause (fault_count self.old) (fault_count self.new) result };

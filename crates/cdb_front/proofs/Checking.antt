@@ -3,7 +3,7 @@ use Rattle.std.proofs.Common.{◌≡◌, ◌⊎◌, inl, inr, ℕ, List, ◌∷�
 use Rattle.std.specs.Io.KnownBytes.{Appends}
 use Rattle.cdb_model.specs.Causes.{Rose}
 use Rattle.cdb_model.specs.Images.{Base, StandsForOne}
-use Rattle.cdb_model.specs.KnownStore.{State, start_at}
+use Rattle.cdb_model.specs.KnownStore.{KnownState, start_at}
 use Rattle.cdb_model.specs.Maps.{FileMap}
 use Rattle.cdb_model.specs.Publications.{Publication}
 use Rattle.cdb_model.specs.Stands.{Stands}
@@ -16,16 +16,16 @@ use Rattle.cdb_chain.specs.declared.open_error.OpenError.TheVariants as refused
 use Rattle.cdb_manifest.specs.declared.record_.Record.{Record}
 use Rattle.cdb_publish.specs.declared.publication.Publication as publish
 use Rattle.cdb_check.specs.Expected.{expected_files}
-use Rattle.cdb_check.specs.Outcome.{Finds, Looks, Tells}
+use Rattle.cdb_check.specs.Outcome.{FirstDiffering, OnlyReads, TellsCounts}
 use Rattle.cdb_check.specs.declared.outcome.Agreed.{Agreed}
 use Rattle.cdb_check.specs.declared.outcome.CheckError.{CheckError}
 use Rattle.cdb_check.specs.declared.outcome.CheckError.TheVariants as check
 use Rattle.cdb_engine.specs.Checks.{AgreesWith, AreOpened}
 use Rattle.cdb_engine.specs.Held.{Held}
-use Rattle.cdb_engine.specs.Store.{IsStore, IsFound}
+use Rattle.cdb_engine.specs.Store.{IsStore, IsStoreFound}
 use Rattle.cdb_engine.specs.Tracks.{Tracks, Works}
 use Rattle.cdb_engine.proofs.OpenTracks.{adds_rests}
-use Rattle.cdb_front.specs.Checking.{Says, SaysPart, FindsFiles, FindsListed, Checks, CompletesCheckOf, agrees_line, checked_status}
+use Rattle.cdb_front.specs.Checking.{SaysAgreed, SaysPart, FindsFiles, FindsListed, Checks, CompletesCheckOf, agrees_line, checked_status}
 use Rattle.cdb_front.specs.Completeness.{Still}
 use Rattle.cdb_front.specs.Devices.{WritesPart}
 use Rattle.cdb_front.specs.EntryStore.{HasStore}
@@ -49,7 +49,7 @@ IsPlain (Damaged expected found) = ⊥
 IsPlain status = Unit {0}
 
 says_whole : (status : Status) (old new : Option (List ℕ)) → IsPlain status → Appends old new (status_line status)
-    → Says old new status
+    → SaysAgreed old new status
 says_whole Memory old new plain whole = whole
 says_whole StoreFault old new plain whole = whole
 says_whole (NotAStore version place) old new plain whole = whole
@@ -63,7 +63,7 @@ says_whole (Refused limit) old new plain whole = absurd plain
 says_whole (Damaged expected found) old new plain whole = absurd plain
 
 says_end : (status result : Status) (old new : Option (List ℕ)) → IsPlain status → EndsWith status old new result
-    → Says old new result
+    → SaysAgreed old new result
 says_end status result old new plain (is_whole whole) = says_whole status old new plain whole
 says_end status result old new plain (is_part part) = SaysPart.of_status status part
 
@@ -122,7 +122,7 @@ files_unopened refused.Fault before now old new = tt
 files_unopened (refused.NotAStore version place) before now old new = tt
 
 list_unopened : (error : OpenError) (list : List Publication) (d : disk.State) (old new : Option (List ℕ))
-    → IsFound error → FindsListed list d old new (status_of error)
+    → IsStoreFound error → FindsListed list d old new (status_of error)
 list_unopened refused.Memory list d old new found = tt
 list_unopened refused.Fault list d old new found = tt
 list_unopened (refused.NotAStore version place) list d old new found = absurd found
@@ -135,7 +135,7 @@ plain_checked check.Fault = tt
 plain_checked (check.Differs path) = tt
 
 files_checked : (error : CheckError) (before now : FileMap) (old new : Option (List ℕ)) (records : List Record)
-    → AreOpened before now records → Finds {T = Agreed} now (expected_files records) (Err error)
+    → AreOpened before now records → FirstDiffering {T = Agreed} now (expected_files records) (Err error)
     → FindsFiles before now old new (checked_status error)
 files_checked check.Memory before now old new records opened finds = tt
 files_checked check.Fault before now old new records opened finds = tt
@@ -170,7 +170,7 @@ module _ {D : Type 0} (tells : Type 0) (state : D → disk.State) (clock : D →
   -- the store wasn't opened
   pub checks_unopened : (error : OpenError) (status result : Status) → status ≡ status_of error
       → (tells → (list : List Publication) (early : List (List Publication)) → IsStore list early (state old)
-      → IsFound error)
+      → IsStoreFound error)
       → EndsWith status written written' result → Checks tells state clock since old mid written written' result
   checks_unopened error status result is found ends = record {
     says = says_end status result written written' (subst IsPlain (sym is) (plain_unopened error)) ends;
@@ -190,7 +190,7 @@ module _ {D : Type 0} (tells : Type 0) (state : D → disk.State) (clock : D →
   module _ (held : Held) (new : D) (count : D → ℕ) (opened : tells → AreOpened (state old).present (state mid).present
       held.chain.records)
       (tracks : tells → (list : List Publication) (early : List (List Publication)) → IsStore list early (state old)
-      → Tracks held (state mid) (start_at list)) (looks : Looks clock since state count mid new) where
+      → Tracks held (state mid) (start_at list)) (looks : OnlyReads clock since state count mid new) where
     opened_now : tells → AreOpened (state old).present (state new).present held.chain.records
     opened_now told = subst (λ (d : disk.State). AreOpened (state old).present d.present held.chain.records)
         (sym looks.state) (opened told)
@@ -202,15 +202,15 @@ module _ {D : Type 0} (tells : Type 0) (state : D → disk.State) (clock : D →
         (moments has.told base.list base.early has.store) looks.time) only_now
 
     pub checks_refused : (error : CheckError) (status result : Status) → status ≡ checked_status error
-        → (tells → Finds {T = Agreed} (state mid).present (expected_files held.chain.records) (Err error))
-        → (tells → (s : State) → Tracks held (state mid) s → s.halted ≡ None → AgreesWith s.list (Err error))
+        → (tells → FirstDiffering {T = Agreed} (state mid).present (expected_files held.chain.records) (Err error))
+        → (tells → (s : KnownState) → Tracks held (state mid) s → s.halted ≡ None → AgreesWith s.list (Err error))
         → EndsWith status written written' result → Checks tells state clock since old new written written' result
     checks_refused error status result is finds agrees ends = record {
       says = says_end status result written written' (subst IsPlain (sym is) (plain_checked error)) ends;
       finds = λ told. finds_end status result (state old).present (state new).present written written' ends
           (subst (FindsFiles (state old).present (state new).present written written') (sym is)
           (files_checked error (state old).present (state new).present written written' held.chain.records
-          (opened_now told) (subst (λ (d : disk.State). Finds {T = Agreed} d.present
+          (opened_now told) (subst (λ (d : disk.State). FirstDiffering {T = Agreed} d.present
           (expected_files held.chain.records) (Err error)) (sym looks.state) (finds told))));
       store = λ base has. record {
         finds = lists_end status result base.list (state new) written written' ends
@@ -222,16 +222,16 @@ module _ {D : Type 0} (tells : Type 0) (state : D → disk.State) (clock : D →
     }
 
     pub checks_agreed : (agreed : Agreed) → Appends written written' (agrees_line agreed.versions agreed.files)
-        → (tells → Finds (state mid).present (expected_files held.chain.records) (as_ok agreed))
-        → Tells held.chain.records agreed
-        → (tells → (s : State) → Tracks held (state mid) s → s.halted ≡ None → AgreesWith s.list (Ok agreed))
+        → (tells → FirstDiffering (state mid).present (expected_files held.chain.records) (as_ok agreed))
+        → TellsCounts held.chain.records agreed
+        → (tells → (s : KnownState) → Tracks held (state mid) s → s.halted ≡ None → AgreesWith s.list (Ok agreed))
         → Checks tells state clock since old new written written' Done
     checks_agreed agreed appended finds told_of agrees = record {
       says = record { versions = agreed.versions; files = agreed.files; appended = appended };
       finds = λ told. record {
         records = held.chain.records;
         opened = opened_now told;
-        agrees = subst (λ (d : disk.State). Finds d.present (expected_files held.chain.records)
+        agrees = subst (λ (d : disk.State). FirstDiffering d.present (expected_files held.chain.records)
             (as_ok agreed)) (sym looks.state) (finds told);
         appended = subst (λ n. Appends written written' (agrees_line (length held.chain.records) n)) told_of.files
             (subst (λ n. Appends written written' (agrees_line n agreed.files)) told_of.versions appended);
@@ -270,7 +270,7 @@ completes_check tells state clock since disk_faults written output_faults old ne
     store_failed output_failed disk_still output_still =
     by status (checks.says) ((checks.store base has).finds) store_failed output_failed
   where
-    by : (status : Status) → Says (written output) (written output') status
+    by : (status : Status) → SaysAgreed (written output) (written output') status
         → FindsListed base.list (state new) (written output) (written output') status
         → (status ≡ StoreFault → Rose (disk_faults old) (disk_faults new))
         → (status ≡ OutputFault → Rose (output_faults output) (output_faults output'))

@@ -5,7 +5,7 @@ use Rattle.cdb_model.specs.Causes.{Rose}
 use Rattle.cdb_model.specs.KnownStore.{start_at}
 use Rattle.cdb_model.proofs.HaltLaws.{plain_answers}
 use Rattle.cdb_front.proofs.InTime.{in_time, quits}
-use Rattle.cdb_front.specs.Completeness.{Still, Completes}
+use Rattle.cdb_front.specs.Completeness.{Still, RunsAreComplete}
 use Rattle.cdb_front.specs.Headline.{Devices}
 use Rattle.cdb_front.specs.RunOutcome.{EndsWith, is_whole, is_part, IsOfStore}
 use Rattle.cdb_front.specs.RunProgress.{Holds}
@@ -22,7 +22,7 @@ ends_of_store status old new result (is_whole written) s = s
 ends_of_store status old new result (is_part written) s = tt
 
 pub completes : (v : Devices) (input_faults : v.I → ℕ) (output_faults : v.O → ℕ)
-    → Completes v input_faults output_faults
+    → RunsAreComplete v input_faults output_faults
 completes v input_faults output_faults life base goes u =
     record {
       ends = by life.status refl;

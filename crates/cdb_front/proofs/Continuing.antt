@@ -7,7 +7,7 @@ use Rattle.cdb_model.specs.AnswerTexts.{tally}
 use Rattle.cdb_model.specs.Begun.{HasBegun, acknowledged, completes, unfinished, whole_answers}
 use Rattle.cdb_model.specs.Events.{Answer}
 use Rattle.cdb_model.specs.Images.{Base, IsNext, StandsKept, StandsForOne, StandsSince}
-use Rattle.cdb_model.specs.KnownStore.{State, Going, start_at}
+use Rattle.cdb_model.specs.KnownStore.{KnownState, Going, start_at}
 use Rattle.cdb_model.specs.Maps.{Content, FileMap}
 use Rattle.cdb_model.specs.Publications.{Publication}
 use Rattle.cdb_model.specs.Runs.{Item, Run, items_of}
@@ -17,9 +17,9 @@ use Rattle.cdb_crash.specs.Crash.{IsClear, IsFaulted, IsEither}
 use Rattle.cdb_files.specs.Disk as disk
 use Rattle.cdb_files.specs.Disk.{IsImage}
 use Rattle.cdb_engine.specs.Store.{IsStore}
-use Rattle.cdb_front.specs.Continued.{Succeeds, stopped, unstopped, base_for, acked_at, acked_by, IsOneOf, MayLeave, Succession, HasAcked, Carried, Continues}
-use Rattle.cdb_front.specs.Headline.{Devices, Life, Goes, Meets, Reopens, Stops, amid, at_end}
-use Rattle.cdb_front.specs.RunOutcome.{Hears, IsOfStore, WasOpened, IsClosed, IsAtRest, RestsAt, StandsAtExit}
+use Rattle.cdb_front.specs.Continued.{Succeeds, stopped, unstopped, base_for, acked_at, acked_by, IsAmong, MayLeave, Succession, HasAcked, Carried, Continues}
+use Rattle.cdb_front.specs.Headline.{Devices, Life, Goes, Meets, Reopens, StopLeaves, amid, at_end}
+use Rattle.cdb_front.specs.RunOutcome.{Hears, IsOfStore, WasOpened, HasNoStore, IsLeftAtRest, RestsAt, StandsAtExit}
 use Rattle.cdb_front.specs.RunProgress.{Holds}
 use Rattle.cdb_front.specs.declared.exit_status.Status.{Status}
 use Rattle.cdb_front.specs.declared.exit_status.Status.TheVariants.{Done, Memory, Usage, InputFault, OutputFault, StoreFault, NotAStore, TooLong, Differs, Refused, Damaged}
@@ -37,13 +37,13 @@ extended begun kept base m s = (
 )
 
 one_of : (early : List (List Publication)) (m : FileMap) → StandsForOne early m
-    → (list : List Publication) × IsOneOf early list × Stands m list
+    → (list : List Publication) × IsAmong early list × Stands m list
 one_of [] m s = absurd s
 one_of (other ∷ others) m (inl s) = (other, inl refl, s)
 one_of (other ∷ others) m (inr s) = let r = one_of others m s in (r.0, inr r.1, r.2)
 
 each_of : (P : List Publication → Type 0) (lists : List (List Publication)) (list : List Publication)
-    → AllByRecursion P lists → IsOneOf lists list → P list
+    → AllByRecursion P lists → IsAmong lists list → P list
 each_of P [] list all one = absurd one
 each_of P (other ∷ others) list all (inl e) = subst P (sym e) all.0
 each_of P (other ∷ others) list all (inr one) = each_of P others list all.1 one
@@ -74,7 +74,7 @@ holds_before base begun kept list x (inr e) all = each_of (λ l. Contains l x) b
 
 -- ---- a run that ended in opening
 
-opened_or_closed : (status : Status) → IsOfStore status → WasOpened status ⊎ IsClosed status
+opened_or_closed : (status : Status) → IsOfStore status → WasOpened status ⊎ HasNoStore status
 opened_or_closed Done o = inl tt
 opened_or_closed Memory o = inr tt
 opened_or_closed Usage o = inr tt
@@ -87,7 +87,7 @@ opened_or_closed (Differs path) o = absurd o
 opened_or_closed (Refused limit) o = absurd o
 opened_or_closed (Damaged expected found) o = absurd o
 
-heard_nothing : (status : Status) (lines heard : List Text) (rest : Text) → IsClosed status
+heard_nothing : (status : Status) (lines heard : List Text) (rest : Text) → HasNoStore status
     → Hears status lines rest heard → heard ≡ []
 heard_nothing Done lines heard rest c h = absurd c
 heard_nothing Memory lines heard rest c h = h
@@ -107,16 +107,16 @@ no_items (i ∷ items) unmade e = cc
 
 -- a run over no items begins nothing
 begins_none : (Has : Text → Content → Type 0) (list : List Publication) (items : List Item)
-    (answers : List Answer) (s : State)
+    (answers : List Answer) (s : KnownState)
     (begun : List Publication) → items ≡ [] → Run Has (start_at list) items answers s
     → HasBegun list s begun → begun ≡ []
 begins_none Has list items answers s begun none run has =
     let r = subst (λ (i : List Item). Run Has (start_at list) i answers s) none run in
     let same : list ++ has.complete ≡ list ++ [] =
-    sym has.list_is ∙ ap (λ (t : State). t.list) r.1 ∙ sym (append-nil list) in
+    sym has.list_is ∙ ap (λ (t : KnownState). t.list) r.1 ∙ sym (append-nil list) in
     has.begun_is ∙ ap (λ (c : List Publication). c ++ unfinished s.going s.halted)
     (append_cancel_left list has.complete [] same)
-    ∙ ap (λ (t : State). unfinished t.going t.halted) r.1
+    ∙ ap (λ (t : KnownState). unfinished t.going t.halted) r.1
 
 -- a clear disk of which a crash leaves what stands for the lists of a store has that store again, though the lists may
 -- have changed places
@@ -124,7 +124,7 @@ record Again (list : List Publication) (early : List (List Publication)) (d : di
   pub now : List Publication
   pub others : List (List Publication)
   pub store : IsStore now others d
-  pub each : AllByRecursion (λ l. (l ≡ list) ⊎ IsOneOf early l) (now ∷ others)
+  pub each : AllByRecursion (λ l. (l ≡ list) ⊎ IsAmong early l) (now ∷ others)
 
 either_of : (shorter list other : List Publication) (x : Publication) (m : FileMap) → IsNext shorter x list other
     → Stands m list ⊎ StandsForOne (other ∷ []) m → IsEither Stands shorter x m
@@ -187,7 +187,7 @@ module _ (v : Devices) (life : Life v) (base : Base) (goes : Goes v life (Some b
   abbrev kept : List Publication
   kept = acknowledged goes.run.begun goes.transcript.answers goes.transcript.wrote
 
-  begun_none : IsClosed goes.status → goes.run.begun ≡ []
+  begun_none : HasNoStore goes.status → goes.run.begun ≡ []
   begun_none closed =
       let t = goes.transcript in
       let none = heard_nothing goes.status t.lines t.heard t.rest closed t.hears in
@@ -196,14 +196,14 @@ module _ (v : Devices) (life : Life v) (base : Base) (goes : Goes v life (Some b
       goes.run.begun items
       goes.run.run goes.run.has_begun
 
-  kept_none : IsClosed goes.status → kept ≡ []
+  kept_none : HasNoStore goes.status → kept ≡ []
   kept_none closed =
       take-none (tally completes (whole_answers goes.transcript.answers goes.transcript.wrote)) goes.run.begun
       (begun_none closed)
 
   -- ---- what a stop left
 
-  exit_left : (status : Status) (keep : List Publication) (m : FileMap) → (IsClosed status → keep ≡ [])
+  exit_left : (status : Status) (keep : List Publication) (m : FileMap) → (HasNoStore status → keep ≡ [])
       → StandsAtExit status base goes.run.begun keep m
       → (list : List Publication) × MayLeave base goes.run.begun keep list × Stands m list
   exit_left Done keep m none s = extended goes.run.begun keep base m s
@@ -223,7 +223,7 @@ module _ (v : Devices) (life : Life v) (base : Base) (goes : Goes v life (Some b
   exit_left (NotAStore version place) keep m none (inr s) = let r = one_of base.early m s in
       (r.0, inr (none tt, r.1), r.2)
 
-  stop_left : (m : FileMap) (stop : Stops v life m)
+  stop_left : (m : FileMap) (stop : StopLeaves v life m)
       → (list : List Publication) × MayLeave base goes.run.begun (acked_at v life m base stop goes) list × Stands m list
   stop_left m (at_end image) = exit_left goes.status kept m kept_none (goes.run.at_exit m image)
   stop_left m (amid since) = by (goes.run.since m since)
@@ -264,7 +264,7 @@ module _ (v : Devices) (life : Life v) (base : Base) (goes : Goes v life (Some b
       }
 
   -- the store was opened
-  rested : (status : Status) (s : State) (d : disk.State) → WasOpened status → RestsAt status s d → IsAtRest s d
+  rested : (status : Status) (s : KnownState) (d : disk.State) → WasOpened status → RestsAt status s d → IsLeftAtRest s d
   rested Done s d o r = r
   rested Memory s d o r = absurd o
   rested Usage s d o r = absurd o
@@ -337,14 +337,14 @@ module _ (v : Devices) (life : Life v) (base : Base) (goes : Goes v life (Some b
       }
 
   opened_found : (d : disk.State) (given : Option Publication) → goes.run.state.halted ≡ given
-      → IsAtRest goes.run.state d
+      → IsLeftAtRest goes.run.state d
       → IsClear d → IsImage d d.present → Found kept d
   opened_found d None is rest clear image =
       record { now = goes.run.state.list; others = []; store = rest.whole is; each = (leaves_old, tt) }
   opened_found d (Some x) is rest clear image = given_up d x (rest.idle x is) is (rest.faulted x is clear) image
 
   -- it wasn't
-  closed_maps : (status : Status) (m : FileMap) → IsClosed status → goes.run.begun ≡ []
+  closed_maps : (status : Status) (m : FileMap) → HasNoStore status → goes.run.begun ≡ []
       → StandsAtExit status base goes.run.begun kept m
       → Stands m base.list ⊎ StandsForOne base.early m
   closed_maps status m closed none s = by status closed s
@@ -363,7 +363,7 @@ module _ (v : Devices) (life : Life v) (base : Base) (goes : Goes v life (Some b
       of (inl k) = inl (one k)
       of (inr e) = inr e
 
-      by : (status : Status) → IsClosed status → StandsAtExit status base goes.run.begun kept m
+      by : (status : Status) → HasNoStore status → StandsAtExit status base goes.run.begun kept m
           → Stands m base.list ⊎ StandsForOne base.early m
       by Done c k = absurd c
       by Memory c k = of k
@@ -387,19 +387,19 @@ module _ (v : Devices) (life : Life v) (base : Base) (goes : Goes v life (Some b
     list_is = sym (append-nil base.list);
   }
 
-  closed_found : (d : disk.State) → IsClosed goes.status → Again base.list base.early d → Found kept d
+  closed_found : (d : disk.State) → HasNoStore goes.status → Again base.list base.early d → Found kept d
   closed_found d closed a =
       let none = kept_none closed in
       record {
         now = a.now;
         others = a.others;
         store = a.store;
-        each = all_map (λ l. (l ≡ base.list) ⊎ IsOneOf base.early l) (MayLeave base goes.run.begun kept)
+        each = all_map (λ l. (l ≡ base.list) ⊎ IsAmong base.early l) (MayLeave base goes.run.begun kept)
             (a.now ∷ a.others)
             (may none) a.each;
       }
     where
-      may : kept ≡ [] → (l : List Publication) → (l ≡ base.list) ⊎ IsOneOf base.early l
+      may : kept ≡ [] → (l : List Publication) → (l ≡ base.list) ⊎ IsAmong base.early l
           → MayLeave base goes.run.begun kept l
       may none l (inl e) = subst (MayLeave base goes.run.begun kept) (sym e) (leaves_opened none)
       may none l (inr one) = inr (none, one)
@@ -408,7 +408,7 @@ module _ (v : Devices) (life : Life v) (base : Base) (goes : Goes v life (Some b
       → IsImage (v.state life.new) (v.state life.new).present → Found kept (v.state life.new)
   stay_found entry clear image = by (opened_or_closed goes.status goes.run.of_store)
     where
-      by : WasOpened goes.status ⊎ IsClosed goes.status → Found kept (v.state life.new)
+      by : WasOpened goes.status ⊎ HasNoStore goes.status → Found kept (v.state life.new)
       by (inl o) = opened_found (v.state life.new) goes.run.state.halted refl
           (rested goes.status goes.run.state (v.state life.new) o goes.run.rests) clear image
       by (inr c) = closed_found (v.state life.new) c

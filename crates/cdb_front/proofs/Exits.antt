@@ -6,7 +6,7 @@ use Rattle.cdb_model.specs.AnswerTexts.{tally}
 use Rattle.cdb_model.specs.Begun.{completes, whole_answers, acknowledged, unfinished, HasBegun}
 use Rattle.cdb_model.specs.Events.{Answer}
 use Rattle.cdb_model.specs.Images.{Base, IsNext, StandsKept, StandsForOne, StandsSince}
-use Rattle.cdb_model.specs.KnownStore.{State, Going, start_at}
+use Rattle.cdb_model.specs.KnownStore.{KnownState, Going, start_at}
 use Rattle.cdb_model.specs.Maps.{Content, FileMap}
 use Rattle.cdb_model.specs.Publications.{Publication}
 use Rattle.cdb_model.specs.Runs.{Item, Run}
@@ -22,8 +22,8 @@ use Rattle.cdb_files.specs.Moments.{AddsOnly}
 use Rattle.cdb_engine.specs.Store.{IsStore}
 use Rattle.cdb_front.specs.EntryStore.{HasStore, IsKnown}
 use Rattle.cdb_front.proofs.Followed.{IsLeftBy, IsFollowed, IsBegun}
-use Rattle.cdb_front.specs.RunOutcome.{EndsFrom, EndsWith, Stops, Outcome, WasOpened, IsClosed, IsOfStore, StandsAtExit, IsAtRest, RestsAt}
-use Rattle.cdb_front.specs.RunProgress.{Sight, Entry, Holds, Runs, Ordered, Told, base_of}
+use Rattle.cdb_front.specs.RunOutcome.{EndsFrom, EndsWith, StopsScript, Outcome, WasOpened, HasNoStore, IsOfStore, StandsAtExit, IsLeftAtRest, RestsAt}
+use Rattle.cdb_front.specs.RunProgress.{Sight, RunStart, Holds, Runs, Ordered, Told, base_of}
 use Rattle.cdb_front.specs.declared.exit_status.Status.{Status}
 use Rattle.cdb_front.specs.declared.exit_status.Status.TheVariants.{Done, Memory, Usage, InputFault, OutputFault, StoreFault, NotAStore, TooLong, Differs, Refused, Damaged}
 
@@ -34,7 +34,7 @@ pub record IsAcknowledged (complete kept : List Publication) : Type 0 where
   pub rest : List Publication
   pub joined : complete ≡ kept ++ rest
 
-pub kept_first : (Has : Text → Content → Type 0) (list : List Publication) (s : State) (items : List Item)
+pub kept_first : (Has : Text → Content → Type 0) (list : List Publication) (s : KnownState) (items : List Item)
     (answers : List Answer)
     (begun : List Publication) (wrote : Text) → Run Has (start_at list) items answers s → (h : HasBegun list s begun)
     → IsAcknowledged h.complete (acknowledged begun answers wrote)
@@ -72,7 +72,7 @@ kept_new list complete begun kept x m begun_is first stands =
     }
 
 -- at the end of a run
-exit_kept : (list : List Publication) (s : State) (d : disk.State) (begun kept : List Publication)
+exit_kept : (list : List Publication) (s : KnownState) (d : disk.State) (begun kept : List Publication)
     → (h : HasBegun list s begun)
     → IsLeftBy s d → IsAcknowledged h.complete kept → (m : FileMap) → IsImage d m → StandsKept list begun kept m
 exit_kept list s d begun kept h left first m image = by s.halted refl h.begun_is
@@ -111,14 +111,14 @@ none_of : (going : Option Going) → ((now : Going) → going ≡ Some now → �
 none_of None never = refl
 none_of (Some now) never = absurd (never now refl)
 
-at_rest : (s : State) (d : disk.State) → IsLeftBy s d → IsAtRest s d
+at_rest : (s : KnownState) (d : disk.State) → IsLeftBy s d → IsLeftAtRest s d
 at_rest s d left = record {
   whole = left.whole;
   faulted = λ x e clear. record { clear = clear; either = left.either x e };
   idle = λ x e. none_of s.going (λ now g. left.one now x g e);
 }
 
-rests_at : (status : Status) (s : State) (d : disk.State) → IsAtRest s d → RestsAt status s d
+rests_at : (status : Status) (s : KnownState) (d : disk.State) → IsLeftAtRest s d → RestsAt status s d
 rests_at Done s d r = r
 rests_at Memory s d r = tt
 rests_at Usage s d r = tt
@@ -147,8 +147,8 @@ opened_store (Damaged expected found) o = absurd o
 -- a run that is followed has ended
 pub ended : (Has : Text → Content → Type 0) (tells : Type 0) (from : Option Base) (status : Status) (items : List Item)
     (answers : List Answer) (wrote : Text)
-    (moment : ℕ) (Since : ℕ → FileMap → Type 0) (entry d : disk.State) (Now : Base → State → Type 0)
-    → ((base : Base) (s : State) → Now base s → IsFollowed base s (Since base.moment) d)
+    (moment : ℕ) (Since : ℕ → FileMap → Type 0) (entry d : disk.State) (Now : Base → KnownState → Type 0)
+    → ((base : Base) (s : KnownState) → Now base s → IsFollowed base s (Since base.moment) d)
     → WasOpened status → IsKnown tells from moment entry → Runs Has from items answers (Now (base_of from))
     → EndsFrom Has from status items answers wrote (Since moment) d
 ended Has tells None status items answers wrote moment Since entry d Now followed opened knows runs = tt
@@ -171,12 +171,12 @@ ended Has tells (Some base) status items answers wrote moment Since entry d Now 
 -- ---- the beginning
 
 -- where the store is known, the state of its list is one of now
-abbrev pub Starts : Option Base → (State → Type 0) → Type 0
+abbrev pub Starts : Option Base → (KnownState → Type 0) → Type 0
 Starts None Now = Unit {0}
 Starts (Some base) Now = Now (start_at base.list)
 
 -- nothing was answered yet
-pub told_begins : {tells : Type 0} (e : Entry) (faults : ℕ) (Now : Sight) → e.disk ≤ faults → Starts e.from (Now known)
+pub told_begins : {tells : Type 0} (e : RunStart) (faults : ℕ) (Now : Sight) → e.disk ≤ faults → Starts e.from (Now known)
     → IsBegun (Now any)
     → Told tells e [] e.written e.shelf faults Now
 told_begins {tells = tells} e faults Now later begins fresh =
@@ -198,7 +198,7 @@ told_begins {tells = tells} e faults Now later begins fresh =
     by (Some base) b = record { next = start_at base.list; step = (refl, refl); now = b }
 
 -- where the store is known, an engine that was opened begins with its list
-pub opens : (tells : Type 0) (moment : ℕ) (entry : disk.State) (from : Option Base) (Now : Base → State → Type 0)
+pub opens : (tells : Type 0) (moment : ℕ) (entry : disk.State) (from : Option Base) (Now : Base → KnownState → Type 0)
     → IsKnown tells from moment entry → ((base : Base) → HasStore tells base moment entry
     → Now base (start_at base.list)) → Starts from (Now (base_of from))
 opens tells moment entry None Now knows begins = tt
@@ -271,12 +271,12 @@ starts_shut : (from : Option Base) → Starts from (Shut from known)
 starts_shut None = tt
 starts_shut (Some base) = refl
 
-pub told_shut : {tells : Type 0} (e : Entry) (faults : ℕ) → e.disk ≤ faults
+pub told_shut : {tells : Type 0} (e : RunStart) (faults : ℕ) → e.disk ≤ faults
     → Told tells e [] e.written e.shelf faults (Shut e.from)
 told_shut e faults later = told_begins e faults (Shut e.from) later (starts_shut e.from) record
     { start = nothing_yet; fresh = fresh_yet; now = tt }
 
-rests_shut : (status : Status) (s : State) (d : disk.State) → IsClosed status → RestsAt status s d
+rests_shut : (status : Status) (s : KnownState) (d : disk.State) → HasNoStore status → RestsAt status s d
 rests_shut Done s d c = absurd c
 rests_shut Memory s d c = tt
 rests_shut Usage s d c = tt
@@ -289,7 +289,7 @@ rests_shut (Differs path) s d c = absurd c
 rests_shut (Refused limit) s d c = absurd c
 rests_shut (Damaged expected found) s d c = absurd c
 
-exit_shut : (status : Status) (base : Base) (kept : List Publication) (m : FileMap) → IsClosed status
+exit_shut : (status : Status) (base : Base) (kept : List Publication) (m : FileMap) → HasNoStore status
     → StandsKept base.list [] kept m ⊎ StandsForOne base.early m
     → StandsAtExit status base [] kept m
 exit_shut Done base kept m c s = absurd c
@@ -307,7 +307,7 @@ exit_shut (Damaged expected found) base kept m c s = absurd c
 -- the run ended in opening: every image stands for the list, or for one of the early ones
 pub closed : {D : Type 0} (tells : Type 0) (Has : Text → Content → Type 0) (clock : D → ℕ)
     (since : D → ℕ → FileMap → Type 0) (state : D → disk.State) (old new : D) (from : Option Base) (status : Status)
-    (items : List Item) (answers : List Answer) (wrote : Text) → IsClosed status
+    (items : List Item) (answers : List Answer) (wrote : Text) → HasNoStore status
     → (tells → (list : List Publication) (early : List (List Publication)) → IsStore list early (state old)
     → IsOfStore status) → IsKnown tells from (clock old) (state old)
     → (tells → (list : List Publication) (early : List (List Publication)) → IsStore list early (state old)
@@ -326,8 +326,8 @@ closed tells Has clock since state old new (Some base) status items answers wrot
       begun = [];
       has_begun = record {
         complete = [];
-        list_is = ap (λ (s : State). s.list) runs.now ∙ sym (append-nil base.list);
-        begun_is = ap (λ (s : State). unfinished s.going s.halted) (sym runs.now);
+        list_is = ap (λ (s : KnownState). s.list) runs.now ∙ sym (append-nil base.list);
+        begun_is = ap (λ (s : KnownState). unfinished s.going s.halted) (sym runs.now);
       };
       since = since_entry;
       at_exit = λ m image. exit_shut status base kept m shut (either m (since_entry m (counts_now m adds.later image)));
@@ -367,12 +367,12 @@ unlabelled o = record {
   leads = record { next = o.leads.next; step = o.leads.step; now = tt };
 }
 
-pub outcome : {tells : Type 0} {e : Entry} {shelf faults : ℕ} {left left' written written' : Option (List ℕ)}
+pub outcome : {tells : Type 0} {e : RunStart} {shelf faults : ℕ} {left left' written written' : Option (List ℕ)}
     {Now : Sight} (status result : Status) (Since : FileMap → Type 0) (d : disk.State)
     → ((items : List Item) (answers : List Answer) (wrote : Text)
     → Runs (Holds tells e.files) e.from items answers (Now known)
     → EndsFrom (Holds tells e.files) e.from status items answers wrote Since d)
-    → Stops tells e shelf faults left left' written Now status → EndsWith status written written' result
+    → StopsScript tells e shelf faults left left' written Now status → EndsWith status written written' result
     → Outcome tells e shelf faults left left' written' Since d result
 outcome {written = written} status result Since d ends s line =
     record {
@@ -387,7 +387,7 @@ outcome {written = written} status result Since d ends s line =
 -- nothing was opened: the disk is as it was
 pub unopened : {D : Type 0} (tells : Type 0) (Has : Text → Content → Type 0) (clock : D → ℕ)
     (since : D → ℕ → FileMap → Type 0) (state : D → disk.State) (d : D) (from : Option Base) (status : Status)
-    (items : List Item) (answers : List Answer) (wrote : Text) → IsClosed status → IsOfStore status
+    (items : List Item) (answers : List Answer) (wrote : Text) → HasNoStore status → IsOfStore status
     → IsKnown tells from (clock d) (state d)
     → ((m : FileMap) → since d (clock d) m → IsImage (state d) m)
     → ((m : FileMap) → clock d ≤ clock d → IsImage (state d) m → since d (clock d) m)

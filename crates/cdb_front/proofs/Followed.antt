@@ -2,7 +2,7 @@
 use Rattle.std.specs.Prelude.{◌≡◌, List, None, Some}
 use Rattle.cdb_model.specs.Begun.{HasBegun}
 use Rattle.cdb_model.specs.Images.{Base, StandsSince}
-use Rattle.cdb_model.specs.KnownStore.{State, Going}
+use Rattle.cdb_model.specs.KnownStore.{KnownState, Going}
 use Rattle.cdb_model.specs.Maps.{FileMap}
 use Rattle.cdb_model.specs.Publications.{Publication}
 use Rattle.cdb_model.specs.Stands.{Stands}
@@ -14,14 +14,14 @@ use Rattle.cdb_files.specs.Disk.{IsImage}
 
 -- a disk is whole for the list of a state, or, where a publication was given up, each image stands for the list or for
 -- the list followed by that one; where one was given up, none is going
-pub record IsLeftBy (s : State) (d : disk.State) : Type 0 where
+pub record IsLeftBy (s : KnownState) (d : disk.State) : Type 0 where
   pub whole : s.halted ≡ None → IsWhole Stands s.list d
   pub either : (x : Publication) → s.halted ≡ Some x → (m : FileMap) → IsImage d m → IsEither Stands s.list x m
   pub one : (now : Going) (x : Publication) → s.going ≡ Some now → s.halted ≡ Some x → ⊥
 
 -- a state of a run that began with a store: whatever a crash left since then stands for the store's list followed by
 -- the first of the publications begun
-pub record IsFollowed (base : Base) (s : State) (Since : FileMap → Type 0) (d : disk.State) : Type 0 where
+pub record IsFollowed (base : Base) (s : KnownState) (Since : FileMap → Type 0) (d : disk.State) : Type 0 where
   pub begun : List Publication
   pub has_begun : HasBegun base.list s begun
   pub since : (m : FileMap) → Since m → StandsSince base begun m

@@ -3,7 +3,7 @@ use Rattle.std.proofs.Common.{◌≡◌, ◌⊎◌, inl, inr, ℕ, List, [], ◌
 use Rattle.std.specs.Io.KnownBytes.{Appends}
 use Rattle.cdb_model.specs.Causes.{Rose}
 use Rattle.cdb_model.specs.Images.{Base, StandsForOne}
-use Rattle.cdb_model.specs.KnownStore.{State, start_at}
+use Rattle.cdb_model.specs.KnownStore.{KnownState, start_at}
 use Rattle.cdb_model.specs.Maps.{FileMap}
 use Rattle.cdb_model.specs.Publications.{Publication}
 use Rattle.cdb_model.specs.Stands.{Stands}
@@ -17,7 +17,7 @@ use Rattle.cdb_chain.specs.declared.open_error.OpenError.TheVariants as refused
 use Rattle.cdb_manifest.specs.declared.record_.Record.{Record}
 use Rattle.cdb_publish.specs.Entries.{entries_in}
 use Rattle.cdb_engine.specs.Checks.{AreOpened}
-use Rattle.cdb_engine.specs.Store.{IsStore, IsFound}
+use Rattle.cdb_engine.specs.Store.{IsStore, IsStoreFound}
 use Rattle.cdb_generate.specs.Generated.{Generates, summary_text}
 use Rattle.cdb_generate.specs.Generator.{passed}
 use Rattle.cdb_engine.specs.Filling.{PopulatesIn, StopsAfter, Populates, IsUndamaged}
@@ -109,7 +109,7 @@ module _ {D : Type 0} (tells : Type 0) (state : D → disk.State) (clock : D →
   line_unopened refused.Fault = tt
   line_unopened (refused.NotAStore version place) = tt
 
-  ends_unopened : (error : OpenError) (list : List Publication) (Left : FileMap → Type 0) → IsFound error
+  ends_unopened : (error : OpenError) (list : List Publication) (Left : FileMap → Type 0) → IsStoreFound error
       → EndsMade list start count [] Left written written' (status_of error)
   ends_unopened refused.Memory list Left found = tt
   ends_unopened refused.Fault list Left found = tt
@@ -124,7 +124,7 @@ module _ {D : Type 0} (tells : Type 0) (state : D → disk.State) (clock : D →
       → IsStore list early (state old) → AddsOnly clock since old mid (StandsForOne (list ∷ early)))
       → (error : OpenError) (status result : Status) → status ≡ status_of error
       → (tells → (list : List Publication) (early : List (List Publication)) → IsStore list early (state old)
-      → IsFound error)
+      → IsStoreFound error)
       → EndsWith status written written' result
       → Fills tells state clock since start count old mid written written' result
   fills_unopened mid moments error status result is found ends = record {
@@ -149,7 +149,7 @@ module _ {D : Type 0} (tells : Type 0) (state : D → disk.State) (clock : D →
   line_stopped populate.Versions = tt
   line_stopped (populate.Damaged expected found) = tt
 
-  stopped : (list : List Publication) (error : PopulateError) (next : State) → (error ≡ populate.Memory → ⊥)
+  stopped : (list : List Publication) (error : PopulateError) (next : KnownState) → (error ≡ populate.Memory → ⊥)
       → PopulatesIn known (start_at list) start count (Err error) next
       → StopsAfter known (start_at list) start count error next
   stopped list error next other (inl nothing) = absurd (other nothing.0)
@@ -157,13 +157,13 @@ module _ {D : Type 0} (tells : Type 0) (state : D → disk.State) (clock : D →
 
   -- a state that the machine came to, for which the disk stands where the writer isn't halted
   pub record Came (base : Base) (result : Result Made PopulateError) (Left : FileMap → Type 0) : Type 0 where
-    pub next : State
+    pub next : KnownState
     pub step : PopulatesIn known (start_at base.list) start count result next
     pub rests : next.halted ≡ None → (m : FileMap) → Left m → Stands m next.list
 
   -- sources that are pending leave the writer as it was
-  still : (mid next : State) (x : ℕ) → mid.halted ≡ None → HasPending known mid x next → next.halted ≡ None
-  still mid next x running pending = ap (λ (s : State). s.halted) pending.state ∙ running
+  still : (mid next : KnownState) (x : ℕ) → mid.halted ≡ None → HasPending known mid x next → next.halted ≡ None
+  still mid next x running pending = ap (λ (s : KnownState). s.halted) pending.state ∙ running
 
   ends_stopped : (error : PopulateError) (base : Base) (begun : List Publication) (Left : FileMap → Type 0)
       → Came base (Err error) Left → IsUndamaged error

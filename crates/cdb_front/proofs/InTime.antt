@@ -9,7 +9,7 @@ use Rattle.cdb_model.specs.Maps.{FileMap}
 use Rattle.cdb_model.specs.Text.{Text, ended}
 use Rattle.cdb_files.specs.Disk as disk
 use Rattle.cdb_front.specs.RunOutcome.{Transcript, EndsWith, is_whole, is_part, Outcome, QuitsInTime}
-use Rattle.cdb_front.specs.RunProgress.{Entry}
+use Rattle.cdb_front.specs.RunProgress.{RunStart}
 use Rattle.cdb_front.specs.declared.exit_status.Status.{Status}
 use Rattle.cdb_front.specs.declared.exit_status.Status.TheVariants.{TooLong}
 
@@ -73,7 +73,7 @@ first_part xs front after read rest a b short =
           ∙ ap (λ l. l ++ drop (length front) read) (sym two ∙ one),
     )
 
-long_quits : {e : Entry} {shelf faults : ℕ} (left left' written : Option (List ℕ))
+long_quits : {e : RunStart} {shelf faults : ℕ} (left left' written : Option (List ℕ))
     → Transcript e shelf faults left left' written TooLong
     → IfSome left (λ bytes. QuitsInTime bytes → ⊥)
 long_quits None left' written t = tt
@@ -86,7 +86,7 @@ long_quits (Some xs) (Some ys) written t = λ q.
     (sym part.1 ∙ t.cut.joined) in
     no_quit_among q.before q.line lines.0 (subst HaveNoQuit lines.1 t.no_quit) q.quit
 
-long_short : {e : Entry} {shelf faults : ℕ} (left left' written : Option (List ℕ))
+long_short : {e : RunStart} {shelf faults : ℕ} (left left' written : Option (List ℕ))
     → Transcript e shelf faults left left' written TooLong
     → IfSome left (λ bytes. length bytes < 2 ^ 32 → ⊥)
 long_short None left' written t = tt
@@ -108,7 +108,7 @@ told : (left : Option (List ℕ)) (P : List ℕ → Type 0) (status : Status)
 told None P status h = tt
 told (Some bytes) P status h = λ p e. h e p
 
-pub in_time : {tells : Type 0} {e : Entry} {shelf faults : ℕ} {left left' written' : Option (List ℕ)}
+pub in_time : {tells : Type 0} {e : RunStart} {shelf faults : ℕ} {left left' written' : Option (List ℕ)}
     {Since : FileMap → Type 0} {d : disk.State} (result : Status)
     → Outcome tells e shelf faults left left' written' Since d result
     → IfSome left (λ bytes. length bytes < 2 ^ 32 → result ≢ TooLong)
@@ -117,7 +117,7 @@ in_time {e = e} {shelf = shelf} {faults = faults} {left = left} {left' = left'} 
     (λ long. long_short left left' o.written (subst (Transcript e shelf faults left left' o.written)
     (stopped_long o.status o.written written' result o.ends long) o.transcript))
 
-pub quits : {tells : Type 0} {e : Entry} {shelf faults : ℕ} {left left' written' : Option (List ℕ)}
+pub quits : {tells : Type 0} {e : RunStart} {shelf faults : ℕ} {left left' written' : Option (List ℕ)}
     {Since : FileMap → Type 0} {d : disk.State} (result : Status)
     → Outcome tells e shelf faults left left' written' Since d result
     → IfSome left (λ bytes. QuitsInTime bytes → result ≢ TooLong)

@@ -4,7 +4,7 @@ use Rattle.cdb_model.specs.Text.{Text}
 use Rattle.cdb_model.specs.Commands as said
 use Rattle.cdb_model.specs.Commands.{Command, spoken, line_command}
 use Rattle.cdb_model.specs.Grammar.{line_of}
-use Rattle.cdb_front.specs.Hearing.{Says}
+use Rattle.cdb_front.specs.Hearing.{HearsCommand}
 use Rattle.cdb_front.specs.Kept.{kept_of}
 use Rattle.cdb_front.specs.declared.heard.Heard.{Heard}
 
@@ -28,6 +28,6 @@ too_long text e = by (nat_le (length text) 4096) e
     by false e = refl
 
 -- what is heard in what is kept is heard in the line
-pub kept_says : (kept text : Text) (h : Heard) → Says h (spoken (line_of kept)) → Some kept ≡ kept_of text
-    → Says h (line_command text)
-kept_says kept text h says e = subst (Says h) (kept_said kept text e) says
+pub kept_says : (kept text : Text) (h : Heard) → HearsCommand h (spoken (line_of kept)) → Some kept ≡ kept_of text
+    → HearsCommand h (line_command text)
+kept_says kept text h says e = subst (HearsCommand h) (kept_said kept text e) says

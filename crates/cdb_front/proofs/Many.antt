@@ -11,7 +11,7 @@ use Rattle.cdb_crash.specs.Crash.{IsWhole}
 use Rattle.cdb_model.specs.Begun.{acknowledged}
 use Rattle.cdb_model.specs.Images.{StandsFrom, StandsKept, StandsSince}
 use Rattle.cdb_front.specs.RunOutcome.{StandsAtExit}
-use Rattle.cdb_front.specs.Headline.{Devices, Life, Goes, Meets, IsOnly, Stops, amid, at_end, whole_for, acked, Adds, Follow, WasAcked, Kept, Headline}
+use Rattle.cdb_front.specs.Headline.{Devices, Life, Goes, Meets, IsOnly, StopLeaves, amid, at_end, whole_for, acked, LeavesAcknowledged, FollowStops, WasAcked, KeepsPublications, Headline}
 use Rattle.cdb_front.specs.declared.exit_status.Status.{Status}
 use Rattle.cdb_front.specs.declared.exit_status.Status.TheVariants.{Done, Memory, Usage, InputFault, OutputFault, StoreFault, NotAStore, TooLong, Differs, Refused, Damaged}
 
@@ -40,13 +40,13 @@ since_early list moment begun m (inl s) = s
 since_early list moment begun m (inr e) = absurd e
 
 -- the list that the map stands for that a stop left
-record Added (v : Devices) (life : Life v) (m : FileMap) (stop : Stops v life m)
+record Added (v : Devices) (life : Life v) (m : FileMap) (stop : StopLeaves v life m)
     (opened : List Publication) : Type 0 where
   pub now : List Publication
-  pub adds : Adds v life m stop opened now
+  pub adds : LeavesAcknowledged v life m stop opened now
   pub stands : Stands m now
 
-added : (v : Devices) (life : Life v) (m : FileMap) (stop : Stops v life m) (opened : List Publication)
+added : (v : Devices) (life : Life v) (m : FileMap) (stop : StopLeaves v life m) (opened : List Publication)
     → Goes v life (Some (whole_for v opened life)) → Added v life m stop opened
 added v life m (amid since) opened goes =
     let s = since_early opened (v.clock life.old) goes.run.begun m (goes.run.since m since) in
@@ -91,9 +91,9 @@ only_whole list m d stands o =
 
 -- one run more
 next : (v : Devices) (list : List Publication) (last life : Life v) (earlier : List (Life v))
-    (follow : Follow v list last (life ∷ earlier)) → v.disk_tells → Meets v last
-    → (before : Kept v list life earlier follow.1)
-    → Added v life follow.0.m follow.0.stop before.now → Kept v list last (life ∷ earlier) follow
+    (follow : FollowStops v list last (life ∷ earlier)) → v.disk_tells → Meets v last
+    → (before : KeepsPublications v list life earlier follow.1)
+    → Added v life follow.0.m follow.0.stop before.now → KeepsPublications v list last (life ∷ earlier) follow
 next v list last life earlier follow told meets before a =
     record {
       now = a.now;

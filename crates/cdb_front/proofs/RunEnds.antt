@@ -12,17 +12,17 @@ use Rattle.cdb_manifest.specs.declared.record_.Record.{Record}
 use Rattle.cdb_check.specs.declared.outcome.CheckError.{CheckError}
 use Rattle.cdb_check.specs.declared.outcome.CheckError.TheVariants as check
 use Rattle.cdb_engine.specs.Checks.{AreOpened}
-use Rattle.cdb_engine.specs.Store.{IsFound, TellsNoStore}
+use Rattle.cdb_engine.specs.Store.{IsStoreFound, TellsNoStore}
 use Rattle.cdb_front.specs.Checking.{checked_status}
 use Rattle.cdb_front.specs.Failures.{ReadsOnce}
-use Rattle.cdb_front.specs.RunOutcome.{Stops, IsOfStore, Hears, Makes, WritesAnswers, Finishes, HasRecords, SaysStore, WasOpened, IsClosed, status_of}
-use Rattle.cdb_front.specs.RunProgress.{Sight, Entry, Told, Sofar, Answered, IsQuit, Broken, UpTo}
+use Rattle.cdb_front.specs.RunOutcome.{StopsScript, IsOfStore, Hears, AllMade, WritesAnswers, EndsScript, HasRecords, SaysStore, WasOpened, HasNoStore, status_of}
+use Rattle.cdb_front.specs.RunProgress.{Sight, RunStart, Told, RunSoFar, Answered, IsQuit, Broken, UpTo}
 use Rattle.cdb_front.specs.RunReading.{Reading}
 use Rattle.cdb_front.specs.declared.exit_status.Status.{Status}
 use Rattle.cdb_front.specs.declared.exit_status.Status.TheVariants.{Done, Memory, Usage, InputFault, OutputFault, StoreFault, NotAStore, TooLong, Differs, Refused, Damaged}
 
 -- nothing was read, and nothing answered
-abbrev pub reading_begins : {tells : Type 0} {e : Entry} (left : Option (List ℕ)) {written : Option (List ℕ)}
+abbrev pub reading_begins : {tells : Type 0} {e : RunStart} (left : Option (List ℕ)) {written : Option (List ℕ)}
     {shelf disk : ℕ}
     {Now : Sight} (kept : Option (List ℕ)) → kept ≡ Some [] → Told tells e [] written shelf disk Now
     → Reading tells e left left written shelf disk Now kept 0
@@ -42,12 +42,12 @@ reading_begins left kept fresh told =
     }
 
 -- the piece was taken whole
-pub reading_more : {tells : Type 0} {e : Entry} {left left' : Option (List ℕ)} (left'' : Option (List ℕ))
+pub reading_more : {tells : Type 0} {e : RunStart} {left left' : Option (List ℕ)} (left'' : Option (List ℕ))
     {written : Option (List ℕ)} {shelf disk : ℕ} {Old : Sight} {kept : Option (List ℕ)} {taken : ℕ} (count : ℕ)
     {written' : Option (List ℕ)} {shelf' disk' : ℕ} {New : Sight} {new : Option (List ℕ)} (piece : Text)
     → (r : Reading tells e left left' written shelf disk Old kept taken) → Consumes left' left'' piece
     → length piece ≡ count
-    → Sofar tells e (r.read ++ piece) written' shelf' disk' New new
+    → RunSoFar tells e (r.read ++ piece) written' shelf' disk' New new
     → Reading tells e left left'' written' shelf' disk' New new (taken + count)
 reading_more {left = left} {left' = left'} left'' count piece r more long s =
     record {
@@ -60,11 +60,11 @@ reading_more {left = left} {left' = left'} left'' count piece r more long s =
 -- ---- all that was read was answered
 
 -- the last line that was read was answered too
-done : {tells : Type 0} {e : Entry} (P : Text → Type 0) (read unread : Text) (left left' : Option (List ℕ))
+done : {tells : Type 0} {e : RunStart} (P : Text → Type 0) (read unread : Text) (left left' : Option (List ℕ))
     (written : Option (List ℕ)) (shelf disk : ℕ) (Now : Sight)
     → Consumes left left' (read ++ unread) → length (read ++ unread) ≤ 2 ^ 32 → length unread ≤ 4096
     → (a : Answered tells e P read written shelf disk Now)
-    → Finishes Done left' read unread a.rest → Stops tells e shelf disk left left' written Now Done
+    → EndsScript Done left' read unread a.rest → StopsScript tells e shelf disk left left' written Now Done
 done P read unread left left' written shelf disk Now taken few small a finishes =
     record {
       transcript = record {
@@ -96,11 +96,11 @@ done P read unread left left' written shelf disk Now taken few small a finishes 
     }
 
 -- its answer wasn't written whole
-broken : {tells : Type 0} {e : Entry} (read unread : Text) (left left' : Option (List ℕ)) (written : Option (List ℕ))
+broken : {tells : Type 0} {e : RunStart} (read unread : Text) (left left' : Option (List ℕ)) (written : Option (List ℕ))
     (shelf disk : ℕ) (Now : Sight)
     → Consumes left left' (read ++ unread) → length (read ++ unread) ≤ 2 ^ 32 → length unread ≤ 4096
     → (b : Broken tells e read written shelf disk Now)
-    → Finishes OutputFault left' read unread b.rest → Stops tells e shelf disk left left' written Now OutputFault
+    → EndsScript OutputFault left' read unread b.rest → StopsScript tells e shelf disk left left' written Now OutputFault
 broken read unread left left' written shelf disk Now taken few small b finishes =
     let t = b.torn in
     record {
@@ -168,26 +168,26 @@ in_piece left left' left'' read front back piece taken joined count first more r
     )
 
 -- `quit` was among the bytes of a piece
-pub stops_quit : {tells : Type 0} {e : Entry} {left left' : Option (List ℕ)} (left'' : Option (List ℕ))
+pub stops_quit : {tells : Type 0} {e : RunStart} {left left' : Option (List ℕ)} (left'' : Option (List ℕ))
     {written : Option (List ℕ)} {shelf disk : ℕ} {Old : Sight} {kept : Option (List ℕ)} {taken : ℕ}
     (written' : Option (List ℕ)) (shelf' disk' : ℕ) (New : Sight) (piece : Text)
     → (r : Reading tells e left left' written shelf disk Old kept taken) → Consumes left' left'' piece
     → taken + length piece ≤ 2 ^ 32 → length piece ≤ 4096
     → UpTo piece (λ front. Answered tells e IsQuit (r.read ++ front) written' shelf' disk' New)
-    → Stops tells e shelf' disk' left left'' written' New Done
+    → StopsScript tells e shelf' disk' left left'' written' New Done
 stops_quit {left = left} {left' = left'} left'' {taken = taken} written' shelf' disk' New piece r more room small up =
     let p = in_piece left left' left'' r.read up.front up.back piece taken up.joined r.count r.input more room small in
     done IsQuit (r.read ++ up.front) (10 ∷ up.back) left left'' written' shelf' disk' New p.0 p.1 p.3 up.reached
     (p.2, inr (up.reached.last, (up.back, refl)))
 
 -- an answer to a line of a piece wasn't written whole
-pub stops_broken : {tells : Type 0} {e : Entry} {left left' : Option (List ℕ)} (left'' : Option (List ℕ))
+pub stops_broken : {tells : Type 0} {e : RunStart} {left left' : Option (List ℕ)} (left'' : Option (List ℕ))
     {written : Option (List ℕ)} {shelf disk : ℕ} {Old : Sight} {kept : Option (List ℕ)} {taken : ℕ}
     (written' : Option (List ℕ)) (shelf' disk' : ℕ) (New : Sight) (piece : Text)
     → (r : Reading tells e left left' written shelf disk Old kept taken) → Consumes left' left'' piece
     → taken + length piece ≤ 2 ^ 32 → length piece ≤ 4096
     → UpTo piece (λ front. Broken tells e (r.read ++ front) written' shelf' disk' New)
-    → Stops tells e shelf' disk' left left'' written' New OutputFault
+    → StopsScript tells e shelf' disk' left left'' written' New OutputFault
 stops_broken {left = left} {left' = left'} left'' {taken = taken} written' shelf' disk' New piece r more room small up =
     let p = in_piece left left' left'' r.read up.front up.back piece taken up.joined r.count r.input more room small in
     broken (r.read ++ up.front) (10 ∷ up.back) left left'' written' shelf' disk' New p.0 p.1 p.3 up.reached
@@ -205,24 +205,24 @@ at_end left left' left'' read taken count first more room =
     )
 
 -- the last line, which no line feed ends, was answered at the end of the input
-pub stops_done : {tells : Type 0} {e : Entry} (P : Text → Type 0) {left left' : Option (List ℕ)}
+pub stops_done : {tells : Type 0} {e : RunStart} (P : Text → Type 0) {left left' : Option (List ℕ)}
     (left'' : Option (List ℕ)) {written : Option (List ℕ)} {shelf disk : ℕ} {Old : Sight}
     {kept : Option (List ℕ)} {taken : ℕ}
     (written' : Option (List ℕ)) (shelf' disk' : ℕ) (New : Sight)
     → (r : Reading tells e left left' written shelf disk Old kept taken) → Consumes left' left'' [] → taken < 2 ^ 32
     → IsAtEnd left''
-    → Answered tells e P r.read written' shelf' disk' New → Stops tells e shelf' disk' left left'' written' New Done
+    → Answered tells e P r.read written' shelf' disk' New → StopsScript tells e shelf' disk' left left'' written' New Done
 stops_done P {left = left} {left' = left'} left'' {taken = taken} written' shelf' disk' New r more room end a =
     let p = at_end left left' left'' r.read taken r.count r.input more (omega (arith, room)) in
     done P r.read [] left left'' written' shelf' disk' New p.0 p.1 (omega arith) a
     (subst (λ n. n < 2 ^ 32) r.count room, inl (refl, end))
 
-pub stops_broken_at_end : {tells : Type 0} {e : Entry} {left left' : Option (List ℕ)} (left'' : Option (List ℕ))
+pub stops_broken_at_end : {tells : Type 0} {e : RunStart} {left left' : Option (List ℕ)} (left'' : Option (List ℕ))
     {written : Option (List ℕ)} {shelf disk : ℕ} {Old : Sight} {kept : Option (List ℕ)} {taken : ℕ}
     (written' : Option (List ℕ)) (shelf' disk' : ℕ) (New : Sight)
     → (r : Reading tells e left left' written shelf disk Old kept taken) → Consumes left' left'' [] → taken < 2 ^ 32
     → IsAtEnd left''
-    → Broken tells e r.read written' shelf' disk' New → Stops tells e shelf' disk' left left'' written' New OutputFault
+    → Broken tells e r.read written' shelf' disk' New → StopsScript tells e shelf' disk' left left'' written' New OutputFault
 stops_broken_at_end {left = left} {left' = left'} left'' {taken = taken} written' shelf' disk' New r more room end b =
     let p = at_end left left' left'' r.read taken r.count r.input more (omega (arith, room)) in
     broken r.read [] left left'' written' shelf' disk' New p.0 p.1 (omega arith) b
@@ -231,15 +231,15 @@ stops_broken_at_end {left = left} {left' = left'} left'' {taken = taken} written
 -- ---- the whole lines alone were answered
 
 -- no more is read: the input failed, or is too long, or no store was opened
-cut_off : {tells : Type 0} {e : Entry} {left left' written : Option (List ℕ)} {shelf disk : ℕ} {Now : Sight}
+cut_off : {tells : Type 0} {e : RunStart} {left left' written : Option (List ℕ)} {shelf disk : ℕ} {Now : Sight}
     {kept : Option (List ℕ)} {taken : ℕ} (status : Status) (left'' : Option (List ℕ))
     → (r : Reading tells e left left' written shelf disk Now kept taken) → Consumes left' left'' [] → taken ≤ 2 ^ 32
     → (heard : List Text) → Hears status r.sofar.lines r.sofar.rest heard
     → items_of e.most heard ≡ items_of e.most r.sofar.lines
-    → Makes status e.most r.sofar.lines (items_of e.most r.sofar.lines) []
+    → AllMade status e.most r.sofar.lines (items_of e.most r.sofar.lines) []
     → WritesAnswers status r.sofar.told.answers (texts_of r.sofar.told.answers)
-    → Finishes status left'' r.read [] r.sofar.rest
-    → Stops tells e shelf disk left left'' written Now status
+    → EndsScript status left'' r.read [] r.sofar.rest
+    → StopsScript tells e shelf disk left left'' written Now status
 cut_off {left = left} {left' = left'} {taken = taken} status left'' r more few heard hears same makes writes finishes =
     let p = at_end left left' left'' r.read taken r.count r.input more few in
     record {
@@ -271,32 +271,32 @@ cut_off {left = left} {left' = left'} {taken = taken} status left'' r more few h
       order = r.sofar.told.order;
     }
 
-pub stops_input : {tells : Type 0} {e : Entry} {left left' written : Option (List ℕ)} {shelf disk : ℕ} {Now : Sight}
+pub stops_input : {tells : Type 0} {e : RunStart} {left left' written : Option (List ℕ)} {shelf disk : ℕ} {Now : Sight}
     {kept : Option (List ℕ)} {taken : ℕ} (left'' : Option (List ℕ))
     → (r : Reading tells e left left' written shelf disk Now kept taken) → Consumes left' left'' [] → taken < 2 ^ 32
-    → Stops tells e shelf disk left left'' written Now InputFault
+    → StopsScript tells e shelf disk left left'' written Now InputFault
 stops_input left'' r more room =
     cut_off InputFault left'' r more (omega (arith, room)) r.sofar.lines refl refl refl refl
     (refl, subst (λ n. n < 2 ^ 32) r.count room)
 
-pub stops_long : {tells : Type 0} {e : Entry} {left left' written : Option (List ℕ)} {shelf disk : ℕ} {Now : Sight}
+pub stops_long : {tells : Type 0} {e : RunStart} {left left' written : Option (List ℕ)} {shelf disk : ℕ} {Now : Sight}
     {kept : Option (List ℕ)} {taken : ℕ}
     → (r : Reading tells e left left' written shelf disk Now kept taken) → taken ≡ 2 ^ 32
-    → Stops tells e shelf disk left left' written Now TooLong
+    → StopsScript tells e shelf disk left left' written Now TooLong
 stops_long {left' = left'} r all =
     cut_off TooLong left' r (Consumes-nil left') (omega (arith, all)) r.sofar.lines refl refl refl refl
     (refl, sym r.count ∙ all)
 
 -- the store wasn't opened
-pub stops_closed : {tells : Type 0} {e : Entry} (status : Status) (left written : Option (List ℕ)) (shelf disk : ℕ)
-    (Now : Sight) → IsClosed status
-    → Told tells e [] written shelf disk Now → Stops tells e shelf disk left left written Now status
+pub stops_closed : {tells : Type 0} {e : RunStart} (status : Status) (left written : Option (List ℕ)) (shelf disk : ℕ)
+    (Now : Sight) → HasNoStore status
+    → Told tells e [] written shelf disk Now → StopsScript tells e shelf disk left left written Now status
 stops_closed {tells = tells} {e = e} status left written shelf disk Now closed told = by status closed
   where
     r : Reading tells e left left written shelf disk Now (Some []) 0
     r = reading_begins left (Some []) refl told
 
-    by : (status : Status) → IsClosed status → Stops tells e shelf disk left left written Now status
+    by : (status : Status) → HasNoStore status → StopsScript tells e shelf disk left left written Now status
     by Memory c = cut_off Memory left r (Consumes-nil left) (omega arith) [] refl refl refl refl (refl, refl)
     by Usage c = cut_off Usage left r (Consumes-nil left) (omega arith) [] refl refl refl refl (refl, refl)
     by StoreFault c = cut_off StoreFault left r (Consumes-nil left) (omega arith) [] refl refl refl refl (refl, refl)
@@ -369,11 +369,11 @@ checked_is_one (check.Differs path) status is version place e =
     let no : Differs path ≡ NotAStore version place = sym is ∙ e in cc
 
 -- a store that wasn't opened
-pub unopened_of_store : (error : OpenError) (status : Status) → status ≡ status_of error → IsFound error
+pub unopened_of_store : (error : OpenError) (status : Status) → status ≡ status_of error → IsStoreFound error
     → IsOfStore status
 unopened_of_store error status is found = subst (λ (x : Status). IsOfStore x) (sym is) (by error found)
   where
-    by : (error : OpenError) → IsFound error → IsOfStore (status_of error)
+    by : (error : OpenError) → IsStoreFound error → IsOfStore (status_of error)
     by refused.Memory found = tt
     by refused.Fault found = tt
     by (refused.NotAStore version place) found = absurd found

@@ -5,19 +5,19 @@ use Rattle.std.proofs.lemmas.Grind.{flat_map-append}
 use Rattle.std.proofs.Math.Seq.{split_at}
 use Rattle.std.specs.Io.KnownBytes.{Appends}
 use Rattle.std.proofs.KnownBytes.{Appends-trans}
-use Rattle.cdb_model.specs.AnswerTexts.{text_of, texts_of, shelf_fault, disk_fault, tally}
+use Rattle.cdb_model.specs.AnswerTexts.{text_of_answer, texts_of, shelf_fault, disk_fault, tally}
 use Rattle.cdb_model.specs.Commands as said
 use Rattle.cdb_model.specs.Commands.{Command, line_command}
 use Rattle.cdb_model.specs.Events as machine
 use Rattle.cdb_model.specs.Grammar as grammar
 use Rattle.cdb_model.specs.Grammar.{sentence_in}
 use Rattle.cdb_model.specs.Images.{Base}
-use Rattle.cdb_model.specs.KnownStore.{State, start_at}
+use Rattle.cdb_model.specs.KnownStore.{KnownState, start_at}
 use Rattle.cdb_model.specs.Lines.{Cut, HasNoFeed, HaveNoFeed, HaveNoQuit}
 use Rattle.cdb_model.specs.Maps.{Content, FileMap}
 use Rattle.cdb_model.specs.Runs as run
 use Rattle.cdb_model.specs.Runs.{TurnIn, behind, Item, Run, RunIn, Passes, PassesIn, due, items_in, items_of}
-use Rattle.cdb_model.specs.Stores.{Kind, Which, known, any, kind_of, known_store, any_store}
+use Rattle.cdb_model.specs.Stores.{Kind, Which, known, any, store_kind, known_store, any_store}
 use Rattle.cdb_model.specs.Text.{Text, ended}
 use Rattle.cdb_model.specs.Transitions.{StateIn, MakesIn}
 use Rattle.cdb_model.specs.declared.line.Line.{Line}
@@ -27,7 +27,7 @@ use Rattle.cdb_front.specs.Devices.{WritesPart}
 use Rattle.cdb_engine.specs.Tracks.{Leads}
 use Rattle.cdb_front.specs.Hearing.{IsEvent, IsAnswered, SaysAsked}
 use Rattle.cdb_front.specs.Kept.{kept_of}
-use Rattle.cdb_front.specs.RunProgress.{Sight, Entry, Holds, Runs, Ordered, Told, Torn, TornIn, Speaks, Stammers, SpeaksFed, TellsFed, Sofar, Answered, IsQuit, IsNotQuit, TakesLine, UpTo}
+use Rattle.cdb_front.specs.RunProgress.{Sight, RunStart, Holds, Runs, Ordered, Told, Torn, TornIn, Speaks, Stammers, SpeaksFed, TellsFed, RunSoFar, Answered, IsQuit, IsNotQuit, TakesLine, UpTo}
 use Rattle.cdb_front.specs.Stepping.{Counts}
 use Rattle.cdb_front.specs.declared.answers.Answer.{Answer}
 use Rattle.cdb_front.specs.declared.answers.Answer.TheVariants as answer
@@ -63,8 +63,8 @@ Run-more k Has old mid new (i ∷ items) item answers now r passes =
     }
 
 Runs-more : (Has : Text → Content → Type 0) (from : Option Base) (items : List Item) (item : Item)
-    (answers now : List machine.Answer) (Now New : State → Type 0)
-    → Runs Has from items answers Now → ((s : State) → Now s → Leads (Passes Has s item now) New)
+    (answers now : List machine.Answer) (Now New : KnownState → Type 0)
+    → Runs Has from items answers Now → ((s : KnownState) → Now s → Leads (Passes Has s item now) New)
     → Runs Has from (items ++ item ∷ []) (answers ++ now) New
 Runs-more Has None items item answers now Now New runs on = tt
 Runs-more Has (Some base) items item answers now Now New runs on =
@@ -97,7 +97,7 @@ Ordered-more Has items item answers now Now New o on =
 -- ---- texts and counts
 
 texts_of-more : (answers now : List machine.Answer) → texts_of (answers ++ now) ≡ texts_of answers ++ texts_of now
-texts_of-more answers now = flat_map-append text_of answers now
+texts_of-more answers now = flat_map-append text_of_answer answers now
 
 tally-more : (kind : machine.Answer → ℕ) (answers now : List machine.Answer)
     → tally kind (answers ++ now) ≡ tally kind answers + tally kind now
@@ -114,7 +114,7 @@ Counts-more kind before since now answers more first second short =
 
 -- ---- one item more
 
-pub told_more : {tells : Type 0} {e : Entry} {items : List Item} {written : Option (List ℕ)} {shelf disk : ℕ}
+pub told_more : {tells : Type 0} {e : RunStart} {items : List Item} {written : Option (List ℕ)} {shelf disk : ℕ}
     {Old : Sight} {item : Item} {now : Option (List ℕ)} {shelf' disk' : ℕ} {New : Sight}
     → Told tells e items written shelf disk Old → Speaks tells e.files item written now shelf shelf' disk disk' Old New
     → Told tells e (items ++ item ∷ []) now shelf' disk' New
@@ -135,7 +135,7 @@ told_more {tells = tells} {e = e} {items = items} {written = written} {shelf = s
           speaks.written);
     }
 
-pub told_torn : {tells : Type 0} {e : Entry} {items : List Item} {written : Option (List ℕ)} {shelf disk : ℕ}
+pub told_torn : {tells : Type 0} {e : RunStart} {items : List Item} {written : Option (List ℕ)} {shelf disk : ℕ}
     {Old : Sight} {item : Item} {now : Option (List ℕ)} {shelf' disk' : ℕ} {New : Sight}
     → Told tells e items written shelf disk Old
     → Stammers tells e.files item written now shelf shelf' disk disk' Old New
@@ -162,7 +162,7 @@ told_torn {tells = tells} {e = e} {items = items} {written = written} {shelf = s
     }
 
 -- a line and then the steps after it: both written, or the line's answer not whole, or that of the steps not whole
-pub both_told : {tells : Type 0} {e : Entry} {items : List Item} {written : Option (List ℕ)} {shelf disk : ℕ}
+pub both_told : {tells : Type 0} {e : RunStart} {items : List Item} {written : Option (List ℕ)} {shelf disk : ℕ}
     {Old : Sight} (item trail : Item)
     (result : Fed) {w : Option (List ℕ)} (w' : Option (List ℕ)) {shelf' disk' : ℕ} (shelf'' disk'' : ℕ)
     {Mid : Sight} (New : Sight)
@@ -183,7 +183,7 @@ both_told {tells = tells} {e = e} {items = items} item trail fed.Failed w' shelf
           (append_assoc items (item ∷ []) (trail ∷ [])) (told_torn (told_more told first) second);
     }
 
-pub first_torn : {tells : Type 0} {e : Entry} {items : List Item} {written : Option (List ℕ)} {shelf disk : ℕ}
+pub first_torn : {tells : Type 0} {e : RunStart} {items : List Item} {written : Option (List ℕ)} {shelf disk : ℕ}
     {Old : Sight} (item trail : Item)
     {w : Option (List ℕ)} {shelf' disk' : ℕ} {New : Sight}
     → Told tells e items written shelf disk Old → Stammers tells e.files item written w shelf shelf' disk disk' Old New
@@ -205,7 +205,7 @@ items_of-more most lines line =
     ∙ ap (λ l. items_of most lines ++ l) (append-nil (items_in most (line_command line)))
 
 -- a command that is neither blank nor `quit` is a line and the steps after it
-items_alone : (most : ℕ) (command : Command) → command ≢ said.blank → command ≢ said.quit
+items_alone : (most : ℕ) (command : Command) → command ≢ said.blank_line → command ≢ said.quit
     → items_in most command ≡ run.line command ∷ run.late (due most command) ∷ []
 items_alone most (said.said (grammar.inline w)) a b = refl
 items_alone most (said.said (grammar.source w)) a b = refl
@@ -224,8 +224,8 @@ items_alone most said.overlong a b = refl
 -- ---- one line
 
 -- a line that is no event of the machine: blank, or `quit`
-silent : {tells : Type 0} {e : Entry} (P : Text → Type 0) {read : Text} {written : Option (List ℕ)} {shelf disk : ℕ}
-    {Now : Sight} {kept : Option (List ℕ)} (s : Sofar tells e read written shelf disk Now kept)
+silent : {tells : Type 0} {e : RunStart} (P : Text → Type 0) {read : Text} {written : Option (List ℕ)} {shelf disk : ℕ}
+    {Now : Sight} {kept : Option (List ℕ)} (s : RunSoFar tells e read written shelf disk Now kept)
     → items_in e.most (line_command s.rest) ≡ [] → P s.rest → Answered tells e P read written shelf disk Now
 silent {tells = tells} {e = e} P {written = written} {shelf = shelf} {disk = disk} {Now = Now} s none last =
     let same : items_of e.most s.lines ≡ items_of e.most (s.lines ++ s.rest ∷ []) =
@@ -240,24 +240,24 @@ silent {tells = tells} {e = e} P {written = written} {shelf = shelf} {disk = dis
       last = last;
     }
 
-pub line_blank : {tells : Type 0} {e : Entry} {read : Text} {written : Option (List ℕ)} {shelf disk : ℕ} {Now : Sight}
+pub line_blank : {tells : Type 0} {e : RunStart} {read : Text} {written : Option (List ℕ)} {shelf disk : ℕ} {Now : Sight}
     {kept : Option (List ℕ)}
-    → ((rest : Text) → kept ≡ kept_of rest → line_command rest ≡ said.blank)
-    → Sofar tells e read written shelf disk Now kept → Answered tells e IsNotQuit read written shelf disk Now
+    → ((rest : Text) → kept ≡ kept_of rest → line_command rest ≡ said.blank_line)
+    → RunSoFar tells e read written shelf disk Now kept → Answered tells e IsNotQuit read written shelf disk Now
 line_blank {e = e} read_as s =
     let is = read_as s.rest s.kept_is in
     silent IsNotQuit s (ap (λ (c : Command). items_in e.most c) is)
-    (λ q. let no : said.blank ≡ said.quit = sym is ∙ q in cc)
+    (λ q. let no : said.blank_line ≡ said.quit = sym is ∙ q in cc)
 
-pub line_quit : {tells : Type 0} {e : Entry} {read : Text} {written : Option (List ℕ)} {shelf disk : ℕ} {Now : Sight}
+pub line_quit : {tells : Type 0} {e : RunStart} {read : Text} {written : Option (List ℕ)} {shelf disk : ℕ} {Now : Sight}
     {kept : Option (List ℕ)}
     → ((rest : Text) → kept ≡ kept_of rest → line_command rest ≡ said.quit)
-    → Sofar tells e read written shelf disk Now kept → Answered tells e IsQuit read written shelf disk Now
+    → RunSoFar tells e read written shelf disk Now kept → Answered tells e IsQuit read written shelf disk Now
 line_quit {e = e} read_as s = let is = read_as s.rest s.kept_is in silent IsQuit s
     (ap (λ (c : Command). items_in e.most c) is) is
 
 -- a line that is answered is neither blank nor `quit`
-line_stands : (l : Line) → IsEvent l → (said.said (sentence_in l) ≢ said.blank)
+line_stands : (l : Line) → IsEvent l → (said.said (sentence_in l) ≢ said.blank_line)
     × (said.said (sentence_in l) ≢ said.quit)
 line_stands (line.Inline w) event = (λ e. cc, λ e. cc)
 line_stands (line.Source w) event = (λ e. cc, λ e. cc)
@@ -271,32 +271,32 @@ line_stands line.Versions event = (λ e. cc, λ e. cc)
 line_stands line.Quit event = absurd event
 line_stands line.Blank event = absurd event
 
-asked_stands : (a : Asked) (command : Command) → IsAnswered a → SaysAsked a command → (command ≢ said.blank)
+asked_stands : (a : Asked) (command : Command) → IsAnswered a → SaysAsked a command → (command ≢ said.blank_line)
     × (command ≢ said.quit)
 asked_stands (asked.Line l) command event e = let stands = line_stands l event in
     (λ q. stands.0 (sym e ∙ q), λ q. stands.1 (sym e ∙ q))
 asked_stands asked.Long command event e = (
-  λ q. let no : said.overlong ≡ said.blank = sym e
+  λ q. let no : said.overlong ≡ said.blank_line = sym e
       ∙ q in cc,
   λ q. let no : said.overlong ≡ said.quit = sym e ∙ q in cc,
 )
 asked_stands asked.Syntax command event e = (
-  λ q. let no : said.unreadable ≡ said.blank = sym e
+  λ q. let no : said.unreadable ≡ said.blank_line = sym e
       ∙ q in cc,
   λ q. let no : said.unreadable ≡ said.quit = sym e ∙ q in cc,
 )
 asked_stands (asked.Name place) command event m = (
-  λ q. let no : said.said (grammar.tile m.id m.file) ≡ said.blank = sym m.says
+  λ q. let no : said.said (grammar.tile m.id m.file) ≡ said.blank_line = sym m.says
       ∙ q in cc,
   λ q. let no : said.said (grammar.tile m.id m.file) ≡ said.quit = sym m.says ∙ q in cc,
 )
 
 -- a line that is an event was taken
-pub takes_event : {tells : Type 0} {e : Entry} (result : Fed) {read : Text} {written : Option (List ℕ)}
+pub takes_event : {tells : Type 0} {e : RunStart} (result : Fed) {read : Text} {written : Option (List ℕ)}
     (now : Option (List ℕ)) {shelf disk : ℕ} (shelf' disk' : ℕ) {Old : Sight} (New : Sight)
     {kept : Option (List ℕ)} (a : Asked)
     → IsAnswered a → ((rest : Text) → kept ≡ kept_of rest → SaysAsked a (line_command rest))
-    → (s : Sofar tells e read written shelf disk Old kept)
+    → (s : RunSoFar tells e read written shelf disk Old kept)
     → ((command : Command) → SaysAsked a command
     → TellsFed tells e result (items_of e.most s.lines) (run.line command ∷ run.late (due e.most command) ∷ []) now
     shelf' disk' New)
@@ -340,10 +340,10 @@ takes_event {e = e} fed.Failed now shelf' disk' New a event read_as s told =
 -- a line's answer was written, or a part of it
 pub speaks_line : {tells : Type 0} (files files' : FileMap) (command : Command) (answer : machine.Answer)
     {before now : Option (List ℕ)} {shelf shelf' disk disk' : ℕ} (Old New : Sight)
-    → files ≡ files' → ((w : Which) (s : StateIn (kind_of w)) → Old w s
-    → Leads (TurnIn (kind_of w) (Holds tells files) s command answer) (New w))
+    → files ≡ files' → ((w : Which) (s : StateIn (store_kind w)) → Old w s
+    → Leads (TurnIn (store_kind w) (Holds tells files) s command answer) (New w))
     → Counts shelf_fault shelf shelf' (answer ∷ []) → Counts disk_fault disk disk' (answer ∷ [])
-    → Appends before now (text_of answer)
+    → Appends before now (text_of_answer answer)
     → Speaks tells files' (run.line command) before now shelf shelf' disk disk' Old New
 speaks_line {tells = tells} files files' command answer {before = before} {now = now} Old New same turn shelf_counted
     disk_counted written =
@@ -355,22 +355,22 @@ speaks_line {tells = tells} files files' command answer {before = before} {now =
             step = record {
               answer = answer;
               answers_are = refl;
-              turn = subst (λ (f : FileMap). TurnIn (kind_of w) (Holds tells f) s command answer led.next) same
+              turn = subst (λ (f : FileMap). TurnIn (store_kind w) (Holds tells f) s command answer led.next) same
                   led.step;
             };
             now = led.now;
           };
       shelf_counted = shelf_counted;
       disk_counted = disk_counted;
-      written = subst (Appends before now) (sym (append-nil (text_of answer))) written;
+      written = subst (Appends before now) (sym (append-nil (text_of_answer answer))) written;
     }
 
 pub stammers_line : {tells : Type 0} (files files' : FileMap) (command : Command) (answer : machine.Answer)
     {before now : Option (List ℕ)} {shelf shelf' disk disk' : ℕ} (Old New : Sight)
-    → files ≡ files' → ((w : Which) (s : StateIn (kind_of w)) → Old w s
-    → Leads (TurnIn (kind_of w) (Holds tells files) s command answer) (New w))
+    → files ≡ files' → ((w : Which) (s : StateIn (store_kind w)) → Old w s
+    → Leads (TurnIn (store_kind w) (Holds tells files) s command answer) (New w))
     → Counts shelf_fault shelf shelf' (answer ∷ []) → Counts disk_fault disk disk' (answer ∷ [])
-    → WritesPart before now (text_of answer)
+    → WritesPart before now (text_of_answer answer)
     → Stammers tells files' (run.line command) before now shelf shelf' disk disk' Old New
 stammers_line {tells = tells} files files' command answer Old New same turn shelf_counted disk_counted written =
     record {
@@ -381,7 +381,7 @@ stammers_line {tells = tells} files files' command answer Old New same turn shel
             step = record {
               answer = answer;
               answers_are = refl;
-              turn = subst (λ (f : FileMap). TurnIn (kind_of w) (Holds tells f) s command answer led.next) same
+              turn = subst (λ (f : FileMap). TurnIn (store_kind w) (Holds tells f) s command answer led.next) same
                   led.step;
             };
             now = led.now;
@@ -405,8 +405,8 @@ late_quiet _ reply quiet = refl
 -- the steps after a line were made, and what is said of them written, or a part of it
 pub speaks_late : {tells : Type 0} (files : FileMap) (most : ℕ) (a : Answer) (reply : List ℕ)
     (answers : List machine.Answer) {before now : Option (List ℕ)} (shelf : ℕ) {disk disk' : ℕ} (Old New : Sight)
-    → answers ≡ behind (meant a reply) → ((w : Which) (s : StateIn (kind_of w)) → Old w s
-    → Leads (MakesIn (kind_of w) most s (meant a reply)) (New w))
+    → answers ≡ behind (meant a reply) → ((w : Which) (s : StateIn (store_kind w)) → Old w s
+    → Leads (MakesIn (store_kind w) most s (meant a reply)) (New w))
     → IsQuiet a → Counts disk_fault disk disk' (meant a reply ∷ []) → Appends before now (texts_of answers)
     → Speaks tells files (run.late most) before now shelf shelf disk disk' Old New
 speaks_late files most a reply answers shelf {disk = disk} {disk' = disk'} Old New are makes quiet counted written =
@@ -426,9 +426,9 @@ speaks_late files most a reply answers shelf {disk = disk} {disk' = disk'} Old N
 
 pub stammers_late : {tells : Type 0} (files : FileMap) (most : ℕ) (a : Answer) (reply : List ℕ)
     (answer : machine.Answer) {before now : Option (List ℕ)} (shelf : ℕ) {disk disk' : ℕ} (Old New : Sight)
-    → answer ∷ [] ≡ behind (meant a reply) → ((w : Which) (s : StateIn (kind_of w)) → Old w s
-    → Leads (MakesIn (kind_of w) most s (meant a reply)) (New w))
-    → IsQuiet a → Counts disk_fault disk disk' (meant a reply ∷ []) → WritesPart before now (text_of answer)
+    → answer ∷ [] ≡ behind (meant a reply) → ((w : Which) (s : StateIn (store_kind w)) → Old w s
+    → Leads (MakesIn (store_kind w) most s (meant a reply)) (New w))
+    → IsQuiet a → Counts disk_fault disk disk' (meant a reply ∷ []) → WritesPart before now (text_of_answer answer)
     → Stammers tells files (run.late most) before now shelf shelf disk disk' Old New
 stammers_late files most a reply answer shelf {disk = disk} {disk' = disk'} Old New are makes quiet counted written =
     record {
@@ -483,10 +483,10 @@ Cut-feed bytes lines rest cut =
     }
 
 -- a byte that isn't a line feed is kept
-pub byte_kept : {tells : Type 0} {e : Entry} {read : Text} (byte : ℕ) {written : Option (List ℕ)} {shelf disk : ℕ}
+pub byte_kept : {tells : Type 0} {e : RunStart} {read : Text} (byte : ℕ) {written : Option (List ℕ)} {shelf disk : ℕ}
     {Now : Sight} {kept : Option (List ℕ)} (new : Option (List ℕ))
     → ((line : Text) → kept ≡ kept_of line → new ≡ kept_of (line ++ byte ∷ [])) → byte ≢ 10
-    → Sofar tells e read written shelf disk Now kept → Sofar tells e (read ++ byte ∷ []) written shelf disk Now new
+    → RunSoFar tells e read written shelf disk Now kept → RunSoFar tells e (read ++ byte ∷ []) written shelf disk Now new
 byte_kept {read = read} byte new pushed other s =
     record {
       lines = s.lines;
@@ -498,13 +498,13 @@ byte_kept {read = read} byte new pushed other s =
     }
 
 -- a line feed ends the line that was answered
-pub line_passed : {tells : Type 0} {e : Entry} {read : Text} (byte : ℕ) {written : Option (List ℕ)} {shelf disk : ℕ}
+pub line_passed : {tells : Type 0} {e : RunStart} {read : Text} (byte : ℕ) {written : Option (List ℕ)} {shelf disk : ℕ}
     {Now : Sight} (new : Option (List ℕ))
     → 10 ≡ byte → new ≡ Some [] → Answered tells e IsNotQuit read written shelf disk Now
-    → Sofar tells e (read ++ byte ∷ []) written shelf disk Now new
+    → RunSoFar tells e (read ++ byte ∷ []) written shelf disk Now new
 line_passed {tells = tells} {e = e} {read = read} byte {written = written} {shelf = shelf} {disk = disk} {Now = Now} new
     feed fresh a =
-    subst (λ (b : ℕ). Sofar tells e (read ++ b ∷ []) written shelf disk Now new) feed
+    subst (λ (b : ℕ). RunSoFar tells e (read ++ b ∷ []) written shelf disk Now new) feed
     record {
       lines = a.lines ++ a.rest ∷ [];
       rest = [];

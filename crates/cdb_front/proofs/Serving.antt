@@ -3,7 +3,7 @@ use Rattle.std.proofs.Common.{ℕ, List, [], ◌∷◌}
 use Rattle.cdb_model.specs.Commands.{Command}
 use Rattle.cdb_model.specs.Events as machine
 use Rattle.cdb_model.specs.Events.{Event, Answer}
-use Rattle.cdb_model.specs.KnownStore.{State, start_at}
+use Rattle.cdb_model.specs.KnownStore.{KnownState, start_at}
 use Rattle.cdb_model.specs.Maps.{Content}
 use Rattle.cdb_model.specs.Runs as run
 use Rattle.cdb_model.specs.Runs.{Item, Run, Turn, Means}
@@ -15,10 +15,10 @@ use Rattle.cdb_front.specs.RunProgress.{Holds}
 use Rattle.cdb_front.specs.Served.{IsServed, EachServed, ServesTiles}
 use Rattle.cdb_front.proofs.Walk.{never}
 
-module _ (Has : Text → Content → Type 0) (old new : State) (command : Command) where
+module _ (Has : Text → Content → Type 0) (old new : KnownState) (command : Command) where
   tile_served : (bytes : List ℕ) (event : Event) → Means Has event command
       → StepIn known_store old event (machine.tile bytes) new → IsServed old command (machine.tile bytes)
-  tile_served bytes (machine.ask id t) meant step = record {
+  tile_served bytes (machine.tile_line id t) meant step = record {
     id = id;
     tile = t;
     session = step.0.session;
@@ -26,23 +26,23 @@ module _ (Has : Text → Content → Type 0) (old new : State) (command : Comman
     is_open = step.0.is_open;
     holds = step.0.serves;
   }
-  tile_served bytes (machine.hasten n) meant step =
+  tile_served bytes (machine.step_line n) meant step =
       absurd (never known_store (machine.tile bytes) (λ s t a. a) (λ e. cc) n old new step.2)
-  tile_served bytes machine.complete meant step =
+  tile_served bytes machine.step_all_line meant step =
       absurd (never known_store (machine.tile bytes) (λ s t a. a) (λ e. cc) step.0 old new step.3)
   tile_served bytes machine.overlong meant step = absurd step.0
   tile_served bytes machine.unreadable meant step = absurd step.0
   tile_served bytes (machine.misnamed place) meant step = absurd step.0
-  tile_served bytes (machine.give w) meant step = absurd step
-  tile_served bytes (machine.load w content) meant step = absurd step
-  tile_served bytes machine.begin meant step = absurd step
-  tile_served bytes machine.connect meant step = absurd step
-  tile_served bytes (machine.disconnect id) meant step = absurd step
-  tile_served bytes machine.tell meant step = absurd step
+  tile_served bytes (machine.inline_line w) meant step = absurd step
+  tile_served bytes (machine.source_line w content) meant step = absurd step
+  tile_served bytes machine.publish_line meant step = absurd step
+  tile_served bytes machine.open_line meant step = absurd step
+  tile_served bytes (machine.close_line id) meant step = absurd step
+  tile_served bytes machine.versions_line meant step = absurd step
 
   missing_served : (event : Event) → Means Has event command → StepIn known_store old event machine.missing new
       → IsServed old command machine.missing
-  missing_served (machine.ask id t) meant step = record {
+  missing_served (machine.tile_line id t) meant step = record {
     id = id;
     tile = t;
     session = step.0.session;
@@ -50,26 +50,26 @@ module _ (Has : Text → Content → Type 0) (old new : State) (command : Comman
     is_open = step.0.is_open;
     holds = step.0.misses;
   }
-  missing_served (machine.hasten n) meant step =
+  missing_served (machine.step_line n) meant step =
       absurd (never known_store machine.missing (λ s t a. a) (λ e. cc) n old new step.2)
-  missing_served machine.complete meant step =
+  missing_served machine.step_all_line meant step =
       absurd (never known_store machine.missing (λ s t a. a) (λ e. cc) step.0 old new step.3)
   missing_served machine.overlong meant step = absurd step.0
   missing_served machine.unreadable meant step = absurd step.0
   missing_served (machine.misnamed place) meant step = absurd step.0
-  missing_served (machine.give w) meant step = absurd step
-  missing_served (machine.load w content) meant step = absurd step
-  missing_served machine.begin meant step = absurd step
-  missing_served machine.connect meant step = absurd step
-  missing_served (machine.disconnect id) meant step = absurd step
-  missing_served machine.tell meant step = absurd step
+  missing_served (machine.inline_line w) meant step = absurd step
+  missing_served (machine.source_line w content) meant step = absurd step
+  missing_served machine.publish_line meant step = absurd step
+  missing_served machine.open_line meant step = absurd step
+  missing_served (machine.close_line id) meant step = absurd step
+  missing_served machine.versions_line meant step = absurd step
 
   turn_served : (answer : Answer) → Turn Has old command answer new → IsServed old command answer
   turn_served (machine.tile bytes) turn = tile_served bytes turn.event turn.meant turn.step
   turn_served machine.missing turn = missing_served turn.event turn.meant turn.step
   turn_served _ turn = tt
 
-each_served : (Has : Text → Content → Type 0) (old : State) (items : List Item) (answers : List Answer) (new : State)
+each_served : (Has : Text → Content → Type 0) (old : KnownState) (items : List Item) (answers : List Answer) (new : KnownState)
     → (r : Run Has old items answers new) → EachServed Has old items answers new r
 each_served Has old [] answers new r = tt
 each_served Has old (run.line command ∷ items) answers new r =

@@ -6,12 +6,12 @@ use Rattle.cdb_model.specs.Events.{Event}
 use Rattle.cdb_model.specs.Grammar.{FileSource, Sentence, sentence_in}
 use Rattle.cdb_model.specs.Grammar as grammar
 use Rattle.cdb_model.specs.Images.{Base, StandsForOne}
-use Rattle.cdb_model.specs.KnownStore.{State, Going, start_at}
+use Rattle.cdb_model.specs.KnownStore.{KnownState, Going, start_at}
 use Rattle.cdb_model.specs.Maps.{Content, FileMap}
 use Rattle.cdb_model.specs.Publications.{Publication}
 use Rattle.cdb_model.specs.Runs.{TurnIn, Means}
 use Rattle.cdb_model.specs.Stands.{Stands}
-use Rattle.cdb_model.specs.Stores.{Kind, Which, kind_of, known, any, any_store}
+use Rattle.cdb_model.specs.Stores.{Kind, Which, store_kind, known, any, any_store}
 use Rattle.cdb_model.specs.Text.{Text}
 use Rattle.cdb_model.specs.Transitions.{StateIn, StepIn, IsFreshIn}
 use Rattle.cdb_model.specs.declared.line.Line.{Line}
@@ -40,14 +40,14 @@ not_both o x none some = cc
 same_one : {A : Type 0} (o : Option A) (x y : A) → o ≡ Some x → o ≡ Some y → x ≡ y
 same_one o x y one other = cc
 
-left_whole : (s : State) (d : disk.State) → s.halted ≡ None → IsWhole Stands s.list d → IsLeftBy s d
+left_whole : (s : KnownState) (d : disk.State) → s.halted ≡ None → IsWhole Stands s.list d → IsLeftBy s d
 left_whole s d running whole = record {
   whole = λ e. whole;
   either = λ x e. absurd (not_both s.halted x running e);
   one = λ now x e f. absurd (not_both s.halted x running f);
 }
 
-left_either : (s : State) (d : disk.State) (x : Publication) → s.going ≡ None → s.halted ≡ Some x
+left_either : (s : KnownState) (d : disk.State) (x : Publication) → s.going ≡ None → s.halted ≡ Some x
     → ((m : FileMap) → IsImage d m → IsEither Stands s.list x m) → IsLeftBy s d
 left_either s d x idle halted either = record {
   whole = λ e. absurd (not_both s.halted x e halted);
@@ -74,7 +74,7 @@ load_turn k tells files l words answer is led =
     record {
       next = led.next;
       step = record {
-        event = machine.load words led.step.content;
+        event = machine.source_line words led.step.content;
         meant = (ap (λ (x : Sentence). said.said x) is, led.step.holds);
         step = led.step.step;
       };
@@ -84,7 +84,7 @@ load_turn k tells files l words answer is led =
 module _ {D : Type 0} (tells : Type 0) (clock count : D → ℕ) (since : D → ℕ → FileMap → Type 0) (state : D → disk.State)
     (base : Base) where
   -- a call without a disk leads on where it changes the engine and the state alike
-  pub stays_on : (d : D) (old new : Held) (w : Which) (s : StateIn (kind_of w)) (Step : StateIn (kind_of w) → Type 0)
+  pub stays_on : (d : D) (old new : Held) (w : Which) (s : StateIn (store_kind w)) (Step : StateIn (store_kind w) → Type 0)
       → StaysWith tells clock count since state base d old w s → (Shows old w s → Leads Step (ChangesAlike old new w s))
       → Leads Step (StaysWith tells clock count since state base d new w)
   stays_on d old new w s Step stays on =
@@ -96,7 +96,7 @@ module _ {D : Type 0} (tells : Type 0) (clock count : D → ℕ) (since : D → 
       }
 
   -- or where it leaves both
-  pub stays_told : (d : D) (held : Held) (w : Which) (s : StateIn (kind_of w)) (Step : StateIn (kind_of w) → Type 0)
+  pub stays_told : (d : D) (held : Held) (w : Which) (s : StateIn (store_kind w)) (Step : StateIn (store_kind w) → Type 0)
       → StaysWith tells clock count since state base d held w s → (Shows held w s → Step s)
       → Leads Step (StaysWith tells clock count since state base d held w)
   stays_told d held w s Step stays on =
@@ -140,7 +140,7 @@ module _ {D : Type 0} (tells : Type 0) (clock count : D → ℕ) (since : D → 
   stays_bare d held fresh = record { start = bare_of held; fresh = fresh; now = record { is = refl } }
 
   -- and at the end the disk is what its state says
-  left_by : (s : State) (going : Option Going) (given_up : Option Publication) (work : Option publish.Publication)
+  left_by : (s : KnownState) (going : Option Going) (given_up : Option Publication) (work : Option publish.Publication)
       (halted : Option ℕ) (chain : Versions) (d : disk.State) → s.going ≡ going → s.halted ≡ given_up
       → Works s.list going given_up work halted chain d → IsLeftBy s d
   left_by s None None None None chain d g h works = left_whole s d h works.whole
@@ -148,7 +148,7 @@ module _ {D : Type 0} (tells : Type 0) (clock count : D → ℕ) (since : D → 
   left_by s None (Some x) None (Some faults) chain d g h works = left_either s d x g h works
   left_by s _ _ _ _ chain d g h works = absurd works
 
-  pub stays_followed : (d : D) (held : Held) (s : State)
+  pub stays_followed : (d : D) (held : Held) (s : KnownState)
       → StaysWith tells clock count since state base d held known s → IsFollowed base s (since d base.moment) (state d)
   stays_followed d held s stays =
       let f = stays.is in

@@ -11,7 +11,7 @@ use Rattle.cdb_model.specs.Maps.{Content}
 use Rattle.cdb_model.specs.Runs.{TurnIn}
 use Rattle.cdb_model.specs.Stores.{Kind}
 use Rattle.cdb_model.specs.Text.{Text}
-use Rattle.cdb_model.specs.Transitions.{StateIn, GoingIn, AdvancesIn, MakesIn, IsIdleIn, IsBusyIn, HastensIn, CompletesIn, HasLeftIn}
+use Rattle.cdb_model.specs.Transitions.{StateIn, GoingIn, AdvancesIn, MakesIn, IsIdleIn, IsBusyIn, StepLineIn, StepAllLineIn, HasLeftIn}
 use Rattle.cdb_model.specs.declared.line.Line.{Line}
 use Rattle.cdb_model.specs.declared.line.Line.TheVariants as line
 use Rattle.cdb_engine.specs.Tracks.{Leads}
@@ -112,11 +112,11 @@ not_there (Some a) e = cc
 -- a line that asks for steps: refused since the writer is halted, since nothing is going, since none is asked for, or
 -- made
 pub hasten_halted : (k : Kind) (Now : StateIn k → Type 0) (s : StateIn k) (n : ℕ) → Now s → true ≡ is_some s.halted
-    → Leads (HastensIn k s n machine.halted) Now
+    → Leads (StepLineIn k s n machine.halted) Now
 hasten_halted k Now s n now e = record { next = s; step = (there s.halted e, refl); now = now }
 
 pub complete_halted : (k : Kind) (Now : StateIn k → Type 0) (s : StateIn k) → Now s → true ≡ is_some s.halted
-    → Leads (CompletesIn k s machine.halted) Now
+    → Leads (StepAllLineIn k s machine.halted) Now
 complete_halted k Now s now e = record { next = s; step = (there s.halted e, refl); now = now }
 
 idle : (k : Kind) (s : StateIn k) → false ≡ is_some s.halted → false ≡ is_some s.going → IsIdleIn k s
@@ -126,15 +126,15 @@ busy : (k : Kind) (s : StateIn k) → false ≡ is_some s.halted → true ≡ is
 busy k s a b = record { running = not_there s.halted a; busy = there s.going b }
 
 pub hasten_nothing : (k : Kind) (Now : StateIn k → Type 0) (s : StateIn k) (n : ℕ) → Now s → false ≡ is_some s.halted
-    → false ≡ is_some s.going → Leads (HastensIn k s n machine.nothing) Now
+    → false ≡ is_some s.going → Leads (StepLineIn k s n machine.nothing) Now
 hasten_nothing k Now s n now a b = record { next = s; step = (idle k s a b, refl); now = now }
 
 pub complete_nothing : (k : Kind) (Now : StateIn k → Type 0) (s : StateIn k) → Now s → false ≡ is_some s.halted
-    → false ≡ is_some s.going → Leads (CompletesIn k s machine.nothing) Now
+    → false ≡ is_some s.going → Leads (StepAllLineIn k s machine.nothing) Now
 complete_nothing k Now s now a b = record { next = s; step = (idle k s a b, refl); now = now }
 
 pub hasten_none : (k : Kind) (Now : StateIn k → Type 0) (s : StateIn k) (n : ℕ) → Now s → false ≡ is_some s.halted
-    → true ≡ is_some s.going → n ≡ 0 → Leads (HastensIn k s n machine.range) Now
+    → true ≡ is_some s.going → n ≡ 0 → Leads (StepLineIn k s n machine.range) Now
 hasten_none k Now s n now a b none = record { next = s; step = (busy k s a b, none, refl); now = now }
 
 -- many steps don't answer what one step doesn't
@@ -146,7 +146,7 @@ never k answer none other (suc n) s new (inr (inl m)) = none s new m.1
 never k answer none other (suc n) s new (inr (inr m)) = never k answer none other n m.0 new m.2
 
 makes_says : (k : Kind) (n : ℕ) (s new : StateIn k) (answer : machine.Answer) → MakesIn k n s answer new → IsBusyIn k s
-    → 0 < n → HastensIn k s n answer new
+    → 0 < n → StepLineIn k s n answer new
 makes_says k n s new machine.halted makes b some = absurd
     (never k machine.halted (λ s new a. a) (λ e. cc) n s new makes)
 makes_says k n s new machine.nothing makes b some = absurd
@@ -160,7 +160,7 @@ left_of k None n some left = cc
 left_of k (Some now) n some left = left
 
 all_says : (k : Kind) (n : ℕ) (s new : StateIn k) (answer : machine.Answer) → MakesIn k n s answer new → IsBusyIn k s
-    → HasLeftIn k s.going n → CompletesIn k s answer new
+    → HasLeftIn k s.going n → StepAllLineIn k s answer new
 all_says k n s new machine.halted makes b left = absurd (never k machine.halted (λ s new a. a) (λ e. cc) n s new makes)
 all_says k n s new machine.nothing makes b left = absurd
     (never k machine.nothing (λ s new a. a) (λ e. cc) n s new makes)
@@ -168,7 +168,7 @@ all_says k n s new _ makes b left = (n, b, left, makes)
 
 pub complete_makes : (k : Kind) (New : StateIn k → Type 0) (s : StateIn k) (n : ℕ) (answer : machine.Answer)
     → false ≡ is_some s.halted → true ≡ is_some s.going → LeftIn k s.going n
-    → Leads (MakesIn k n s answer) New → Leads (CompletesIn k s answer) New
+    → Leads (MakesIn k n s answer) New → Leads (StepAllLineIn k s answer) New
 complete_makes k New s n answer a b left led =
     let is_busy = busy k s a b in
     record {
@@ -180,7 +180,7 @@ complete_makes k New s n answer a b left led =
 
 pub hasten_makes : (k : Kind) (New : StateIn k → Type 0) (s : StateIn k) (n : ℕ) (answer : machine.Answer)
     → false ≡ is_some s.halted → true ≡ is_some s.going → (n ≡ 0 → ⊥)
-    → Leads (MakesIn k n s answer) New → Leads (HastensIn k s n answer) New
+    → Leads (MakesIn k n s answer) New → Leads (StepLineIn k s n answer) New
 hasten_makes k New s n answer a b some led =
     record {
       next = led.next;
@@ -191,13 +191,13 @@ hasten_makes k New s n answer a b some led =
 -- the lines that ask for them
 pub hasten_turn : (k : Kind) (Has : Text → Content → Type 0) (l : Line) (n : ℕ) (answer : machine.Answer)
     {s : StateIn k} {Now : StateIn k → Type 0}
-    → l ≡ line.Step n → Leads (HastensIn k s n answer) Now
+    → l ≡ line.Step n → Leads (StepLineIn k s n answer) Now
     → Leads (TurnIn k Has s (said.said (sentence_in l)) answer) Now
 hasten_turn k Has l n answer is led =
     record {
       next = led.next;
       step = record {
-        event = machine.hasten n;
+        event = machine.step_line n;
         meant = ap (λ (x : Line). said.said (sentence_in x)) is;
         step = led.step;
       };
@@ -206,13 +206,13 @@ hasten_turn k Has l n answer is led =
 
 pub complete_turn : (k : Kind) (Has : Text → Content → Type 0) (l : Line) (answer : machine.Answer) {s : StateIn k}
     {Now : StateIn k → Type 0}
-    → l ≡ line.StepAll → Leads (CompletesIn k s answer) Now
+    → l ≡ line.StepAll → Leads (StepAllLineIn k s answer) Now
     → Leads (TurnIn k Has s (said.said (sentence_in l)) answer) Now
 complete_turn k Has l answer is led =
     record {
       next = led.next;
       step = record {
-        event = machine.complete;
+        event = machine.step_all_line;
         meant = ap (λ (x : Line). said.said (sentence_in x)) is;
         step = led.step;
       };

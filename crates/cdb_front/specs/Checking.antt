@@ -39,15 +39,15 @@ pub data SaysPart (old new : Option (List ℕ)) : Type 0 where
   of_status : (status : Status) → WritesPart old new (status_line status) → SaysPart old new
 
 -- one line is written, and the run ends in no other way
-abbrev pub Says : Option (List ℕ) → Option (List ℕ) → Status → Type 0
-Says old new Done = SaysAgrees old new
-Says old new OutputFault = SaysPart old new
-Says old new Usage = ⊥
-Says old new InputFault = ⊥
-Says old new TooLong = ⊥
-Says old new (Refused limit) = ⊥
-Says old new (Damaged expected found) = ⊥
-Says old new status = Appends old new (status_line status)
+abbrev pub SaysAgreed : Option (List ℕ) → Option (List ℕ) → Status → Type 0
+SaysAgreed old new Done = SaysAgrees old new
+SaysAgreed old new OutputFault = SaysPart old new
+SaysAgreed old new Usage = ⊥
+SaysAgreed old new InputFault = ⊥
+SaysAgreed old new TooLong = ⊥
+SaysAgreed old new (Refused limit) = ⊥
+SaysAgreed old new (Damaged expected found) = ⊥
+SaysAgreed old new status = Appends old new (status_line status)
 
 -- how a run ends whose check failed
 abbrev pub checked_status : CheckError → Status
@@ -102,7 +102,7 @@ pub record ChecksStore (base : Base) (Since : FileMap → Type 0) (d : disk.Stat
 pub record Checks {D : Type 0} (tells : Type 0) (state : D → disk.State) (clock : D → ℕ)
     (since : D → ℕ → FileMap → Type 0) (old new : D) (written written' : Option (List ℕ)) (status : Status)
     : Type 0 where
-  pub says : Says written written' status
+  pub says : SaysAgreed written written' status
   pub finds : tells → FindsFiles (state old).present (state new).present written written' status
   pub store : (base : Base) → HasStore tells base (clock old) (state old)
       → ChecksStore base (since new (clock old)) (state new) written written' status

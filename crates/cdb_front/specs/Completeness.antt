@@ -4,7 +4,7 @@ use Rattle.cdb_model.specs.Causes.{Rose}
 use Rattle.cdb_files.specs.Disk as disk
 use Rattle.cdb_model.specs.Maps.{FileMap}
 use Rattle.cdb_model.specs.Images.{Base}
-use Rattle.cdb_model.specs.RunLaws.{IsPlain}
+use Rattle.cdb_model.specs.RunLaws.{IsOfNoFailure}
 use Rattle.cdb_model.specs.Events as machine
 use Rattle.cdb_front.specs.RunOutcome.{QuitsInTime}
 use Rattle.cdb_front.specs.Headline.{Devices, Life, Goes}
@@ -31,18 +31,18 @@ pub record IsComplete (v : Devices) (life : Life v) (answers : List machine.Answ
   pub ends : (life.status ≡ Done) ⊎ ((life.status ≡ Memory) ⊎ (life.status ≡ TooLong))
   pub few : IfSome (v.left life.input) (λ bytes. length bytes < 2 ^ 32 → life.status ≢ TooLong)
   pub quits : IfSome (v.left life.input) (λ bytes. QuitsInTime bytes → life.status ≢ TooLong)
-  pub plain : All IsPlain answers
+  pub plain : All IsOfNoFailure answers
 
 -- where no device fails, a run over a store is complete
-abbrev pub Completes : (v : Devices) → (v.I → ℕ) → (v.O → ℕ) → Type 0
-Completes v input_faults output_faults = (life : Life v) (base : Base) (goes : Goes v life (Some base))
+abbrev pub RunsAreComplete : (v : Devices) → (v.I → ℕ) → (v.O → ℕ) → Type 0
+RunsAreComplete v input_faults output_faults = (life : Life v) (base : Base) (goes : Goes v life (Some base))
     → IsUndisturbed v input_faults output_faults life → IsComplete v life goes.transcript.answers
 
 abbrev pub CompletesOf : {D H I O : Type 0} → Type 0 → (D → disk.State) → (D → ℕ) → (D → ℕ → FileMap → Type 0) → (D → ℕ)
     → Type 0 → (H → FileMap) → (H → ℕ) → (I → Option (List ℕ)) → (I → ℕ) → (O → Option (List ℕ)) → (O → ℕ) → Type 0
 CompletesOf {D = D} {H = H} {I = I} {O = O} disk_tells state clock since disk_faults shelf_tells files shelf_faults left
     input_faults written output_faults =
-    Completes (record {
+    RunsAreComplete (record {
       D = D;
       H = H;
       I = I;

@@ -10,7 +10,7 @@ use Rattle.cdb_crash.specs.Crash.{IsClear}
 use Rattle.cdb_files.specs.Disk as disk
 use Rattle.cdb_files.specs.Disk.{IsImage}
 use Rattle.cdb_engine.specs.Store.{IsStore}
-use Rattle.cdb_front.specs.Headline.{Devices, Life, Goes, Reopens, AllMeet, Stops, amid, at_end}
+use Rattle.cdb_front.specs.Headline.{Devices, Life, Goes, Reopens, AllMeet, StopLeaves, amid, at_end}
 
 -- the next run begins on the disk as it was left, which is clear
 pub record StaysOn (v : Devices) (life next : Life v) : Type 0 where
@@ -29,7 +29,7 @@ base_for v list early life = record { list = list; early = early; moment = v.clo
 
 -- what a run acknowledged before a stop, or to its end. A stop within the run is one of another disk, whose calls fail
 -- from there on
-abbrev pub acked_at : (v : Devices) (life : Life v) (m : FileMap) (base : Base) → Stops v life m
+abbrev pub acked_at : (v : Devices) (life : Life v) (m : FileMap) (base : Base) → StopLeaves v life m
     → Goes v life (Some base)
     → List Publication
 acked_at v life m base (amid since) goes = []
@@ -52,13 +52,13 @@ pub record Extends (opened begun kept list : List Publication) : Type 0 where
   pub list_is : list ≡ opened ++ first
 
 -- a list is one of some
-abbrev pub IsOneOf : List (List Publication) → List Publication → Type 0
-IsOneOf [] list = ⊥
-IsOneOf (other ∷ others) list = (list ≡ other) ⊎ IsOneOf others list
+abbrev pub IsAmong : List (List Publication) → List Publication → Type 0
+IsAmong [] list = ⊥
+IsAmong (other ∷ others) list = (list ≡ other) ⊎ IsAmong others list
 
 -- what a run may leave: that, or, where nothing is to be kept, one of the lists that a crash in opening may leave
 abbrev pub MayLeave : Base → List Publication → List Publication → List Publication → Type 0
-MayLeave base begun kept list = Extends base.list begun kept list ⊎ ((kept ≡ []) × IsOneOf base.early list)
+MayLeave base begun kept list = Extends base.list begun kept list ⊎ ((kept ≡ []) × IsAmong base.early list)
 
 -- runs up to the last one, the latest first: the first is over this store, and each other succeeds the one before
 abbrev pub Succession : (v : Devices) → List Publication → List (List Publication) → Life v → List (Life v) → Type 0
@@ -76,17 +76,17 @@ pub record FindsLeft (v : Devices) (Before : List Publication → List (List Pub
       (acked_by v life next link (base_for v opened others life) goes)) (list ∷ early)
 
 -- the last one finds this store: the one at first, or one that the run before may leave
-abbrev pub Finds : (v : Devices) (list : List Publication) (early : List (List Publication)) (last : Life v)
+abbrev pub FindsStore : (v : Devices) (list : List Publication) (early : List (List Publication)) (last : Life v)
     (earlier : List (Life v)) → Succession v list early last earlier → List Publication
     → List (List Publication) → Type 0
-Finds v list early last [] line now others = (now ≡ list) × (others ≡ early)
-Finds v list early last (life ∷ earlier) line now others =
-    FindsLeft v (Finds v list early life earlier line.1) life last line.0 now others
+FindsStore v list early last [] line now others = (now ≡ list) × (others ≡ early)
+FindsStore v list early last (life ∷ earlier) line now others =
+    FindsLeft v (FindsStore v list early life earlier line.1) life last line.0 now others
 
 -- a publication was acknowledged by one of the earlier runs
 abbrev pub HasAcked : (v : Devices) (list : List Publication) (early : List (List Publication)) (last : Life v)
     (earlier : List (Life v)) (line : Succession v list early last earlier) (now : List Publication)
-    (others : List (List Publication)) → Finds v list early last earlier line now others → Publication → Type 0
+    (others : List (List Publication)) → FindsStore v list early last earlier line now others → Publication → Type 0
 HasAcked v list early last [] line now others finds x = ⊥
 HasAcked v list early last (life ∷ earlier) line now others finds x =
     Contains (acked_by v life last line.0 (base_for v finds.opened finds.others life) finds.goes) x
@@ -98,7 +98,7 @@ pub record Carried (v : Devices) (list : List Publication) (early : List (List P
     (earlier : List (Life v)) (line : Succession v list early last earlier) : Type 0 where
   pub now : List Publication
   pub others : List (List Publication)
-  pub finds : Finds v list early last earlier line now others
+  pub finds : FindsStore v list early last earlier line now others
   pub every : (x : Publication) → HasAcked v list early last earlier line now others finds x
       → AllByRecursion (λ l. Contains l x) (now ∷ others)
   pub store : IsStore now others (v.state last.old)

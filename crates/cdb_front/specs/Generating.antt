@@ -3,7 +3,7 @@ use Rattle.std.specs.Prelude.{◌≡◌, ◌⊎◌, ℕ, ℤ, List, length, Opti
 use Rattle.std.specs.Io.KnownBytes.{Appends}
 use Rattle.cdb_model.specs.Causes.{Rose}
 use Rattle.cdb_model.specs.Images.{Base}
-use Rattle.cdb_model.specs.KnownStore.{State, start_at}
+use Rattle.cdb_model.specs.KnownStore.{KnownState, start_at}
 use Rattle.cdb_model.specs.Maps.{FileMap}
 use Rattle.cdb_model.specs.Publications.{Publication}
 use Rattle.cdb_model.specs.Stands.{Stands}
@@ -68,8 +68,8 @@ error_of (Entries count) = populate.Entries count
 error_of Versions = populate.Versions
 
 -- the next publication of the generator would pass the limit; a crash leaves those before it
-pub record IsFull (list : List Publication) (start count : ℕ) (limit : Limit) (Left : FileMap → Type 0) : Type 0 where
-  pub next : State
+pub record IsAtLimit (list : List Publication) (start count : ℕ) (limit : Limit) (Left : FileMap → Type 0) : Type 0 where
+  pub next : KnownState
   pub stops : StopsAfter known (start_at list) start count (error_of limit) next
   pub at_exit : (m : FileMap) → Left m → Stands m next.list
 
@@ -84,7 +84,7 @@ pub record SumsUp (list begun : List Publication) (count : ℕ) (Left : FileMap 
 abbrev pub EndsMade : List Publication → ℕ → ℕ → List Publication → (FileMap → Type 0) → Option (List ℕ)
     → Option (List ℕ) → Status → Type 0
 EndsMade list start count begun Left old new Done = SumsUp list begun count Left old new
-EndsMade list start count begun Left old new (Refused limit) = IsFull list start count limit Left
+EndsMade list start count begun Left old new (Refused limit) = IsAtLimit list start count limit Left
 EndsMade list start count begun Left old new (Damaged expected found) = ⊥
 EndsMade list start count begun Left old new (NotAStore version place) = ⊥
 EndsMade list start count begun Left old new status = Unit {0}

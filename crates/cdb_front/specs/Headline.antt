@@ -70,14 +70,14 @@ pub record IsOnly (m : FileMap) (d : disk.State) : Type 0 where
   pub only : (path : Text) (c : Content) → Allows (d.may path) c → c ≡ m path
 
 -- a stop leaves this map: before or within a file action of the run, or after its end
-pub data Stops (v : Devices) (life : Life v) (m : FileMap) : Type 0 where
-  amid : v.since life.new (v.clock life.old) m → Stops v life m
-  at_end : IsImage (v.state life.new) m → Stops v life m
+pub data StopLeaves (v : Devices) (life : Life v) (m : FileMap) : Type 0 where
+  amid : v.since life.new (v.clock life.old) m → StopLeaves v life m
+  at_end : IsImage (v.state life.new) m → StopLeaves v life m
 
 -- the next run begins over what a stop left
 pub record Reopens (v : Devices) (life next : Life v) : Type 0 where
   pub m : FileMap
-  pub stop : Stops v life m
+  pub stop : StopLeaves v life m
   pub only : IsOnly m (v.state next.old)
 
 abbrev pub whole_for : (v : Devices) → List Publication → Life v → Base
@@ -85,14 +85,14 @@ whole_for v list life = record { list = list; early = []; moment = v.clock life.
 
 -- what the run acknowledged before it stopped. A stop within the run is one of another disk, whose calls fail from
 -- there on
-abbrev pub acked : (v : Devices) (life : Life v) (m : FileMap) (opened : List Publication) → Stops v life m
+abbrev pub acked : (v : Devices) (life : Life v) (m : FileMap) (opened : List Publication) → StopLeaves v life m
     → Goes v life (Some (whole_for v opened life)) → List Publication
 acked v life m opened (amid since) goes = []
 acked v life m opened (at_end image) goes = acknowledged goes.run.begun goes.transcript.answers goes.transcript.wrote
 
 -- a run opened a list, and a stop left it followed by the first of the publications begun, with all that are
 -- acknowledged
-pub record Adds (v : Devices) (life : Life v) (m : FileMap) (stop : Stops v life m)
+pub record LeavesAcknowledged (v : Devices) (life : Life v) (m : FileMap) (stop : StopLeaves v life m)
     (opened now : List Publication) : Type 0 where
   pub goes : Goes v life (Some (whole_for v opened life))
   pub first : List Publication
@@ -103,16 +103,16 @@ pub record Adds (v : Devices) (life : Life v) (m : FileMap) (stop : Stops v life
   pub now_is : now ≡ opened ++ first
 
 pub record AddsTo (v : Devices) (Before : List Publication → Type 0) (life : Life v) (m : FileMap)
-    (stop : Stops v life m) (now : List Publication) : Type 0 where
+    (stop : StopLeaves v life m) (now : List Publication) : Type 0 where
   pub opened : List Publication
   pub before : Before opened
-  pub adds : Adds v life m stop opened now
+  pub adds : LeavesAcknowledged v life m stop opened now
 
 -- runs up to the last one, the latest first: the first is over a store of this list, and each other over what a stop
 -- left
-abbrev pub Follow : (v : Devices) → List Publication → Life v → List (Life v) → Type 0
-Follow v list last [] = IsWhole Stands list (v.state last.old)
-Follow v list last (life ∷ earlier) = Reopens v life last × Follow v list life earlier
+abbrev pub FollowStops : (v : Devices) → List Publication → Life v → List (Life v) → Type 0
+FollowStops v list last [] = IsWhole Stands list (v.state last.old)
+FollowStops v list last (life ∷ earlier) = Reopens v life last × FollowStops v list life earlier
 
 -- each of them is as the program promises
 abbrev pub AllMeet : (v : Devices) → Life v → List (Life v) → Type 0
@@ -121,14 +121,14 @@ AllMeet v last (life ∷ earlier) = Meets v last × AllMeet v life earlier
 
 -- the last one opens this list: what was there at first, and what each run before added
 abbrev pub Opens : (v : Devices) (list : List Publication) (last : Life v) (earlier : List (Life v))
-    → Follow v list last earlier → List Publication → Type 0
+    → FollowStops v list last earlier → List Publication → Type 0
 Opens v list last [] follow now = now ≡ list
 Opens v list last (life ∷ earlier) follow now = AddsTo v (Opens v list life earlier follow.1) life follow.0.m
     follow.0.stop now
 
 -- a publication was acknowledged by one of the earlier runs
 abbrev pub WasAcked : (v : Devices) (list : List Publication) (last : Life v) (earlier : List (Life v))
-    (follow : Follow v list last earlier) (now : List Publication) → Opens v list last earlier follow now
+    (follow : FollowStops v list last earlier) (now : List Publication) → Opens v list last earlier follow now
     → Publication → Type 0
 WasAcked v list last [] follow now opens x = ⊥
 WasAcked v list last (life ∷ earlier) follow now opens x =
@@ -137,8 +137,8 @@ WasAcked v list last (life ∷ earlier) follow now opens x =
 
 -- reopening gives the list of the first store, followed run by run by the first of the publications begun, with every
 -- acknowledged one; from there the last run goes on as the program promises
-pub record Kept (v : Devices) (list : List Publication) (last : Life v) (earlier : List (Life v))
-    (follow : Follow v list last earlier) : Type 0 where
+pub record KeepsPublications (v : Devices) (list : List Publication) (last : Life v) (earlier : List (Life v))
+    (follow : FollowStops v list last earlier) : Type 0 where
   pub now : List Publication
   pub opens : Opens v list last earlier follow now
   pub every : (x : Publication) → WasAcked v list last earlier follow now opens x → Contains now x
@@ -148,7 +148,7 @@ pub record Kept (v : Devices) (list : List Publication) (last : Life v) (earlier
 -- over devices of which the disk tells what it holds
 abbrev pub Headline : Devices → Type 0
 Headline v = v.disk_tells → (list : List Publication) (last : Life v) (earlier : List (Life v))
-    (follow : Follow v list last earlier) → AllMeet v last earlier → Kept v list last earlier follow
+    (follow : FollowStops v list last earlier) → AllMeet v last earlier → KeepsPublications v list last earlier follow
 
 abbrev pub HeadlineOf : {D H I O : Type 0} → Type 0 → (D → disk.State) → (D → ℕ) → (D → ℕ → FileMap → Type 0) → (D → ℕ)
     → Type 0 → (H → FileMap) → (H → ℕ) → (I → Option (List ℕ)) → (O → Option (List ℕ)) → Type 0

@@ -35,10 +35,10 @@ SaysAsked asked.Syntax command = command ≡ said.unreadable
 SaysAsked (asked.Name place) command = Misnames command place
 
 -- the command that a line is
-abbrev pub Says : Heard → Command → Type 0
-Says heard.Blank command = command ≡ said.blank
-Says heard.Quit command = command ≡ said.quit
-Says (heard.Event a) command = SaysAsked a command
+abbrev pub HearsCommand : Heard → Command → Type 0
+HearsCommand heard.Blank command = command ≡ said.blank_line
+HearsCommand heard.Quit command = command ≡ said.quit
+HearsCommand (heard.Event a) command = SaysAsked a command
 
 abbrev pub IsHeard : Heard → Type 0
 IsHeard (heard.Event a) = IsAnswered a

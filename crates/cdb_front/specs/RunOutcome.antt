@@ -10,10 +10,10 @@ use Rattle.cdb_model.specs.Lines.{Cut, HaveNoFeed, HaveNoQuit}
 use Rattle.cdb_model.specs.Publications.{Publication}
 use Rattle.cdb_model.specs.Stands.{Stands}
 use Rattle.cdb_model.specs.Stores.{known, any}
-use Rattle.cdb_model.specs.KnownStore.{State, start_at}
+use Rattle.cdb_model.specs.KnownStore.{KnownState, start_at}
 use Rattle.cdb_model.specs.Events as machine
 use Rattle.cdb_model.specs.Runs.{Item, Run, items_of}
-use Rattle.cdb_model.specs.AnswerTexts.{text_of, texts_of, shelf_fault, disk_fault}
+use Rattle.cdb_model.specs.AnswerTexts.{text_of_answer, texts_of, shelf_fault, disk_fault}
 use Rattle.cdb_model.specs.Begun.{HasBegun, acknowledged}
 use Rattle.cdb_model.specs.Images.{Base, StandsKept, StandsForOne, StandsSince}
 use Rattle.cdb_crash.specs.Crash.{IsClear, IsWhole, IsFaulted}
@@ -25,7 +25,7 @@ use Rattle.cdb_chain.specs.declared.open_error.OpenError.TheVariants as refused
 use Rattle.cdb_engine.specs.Checks.{AreOpened}
 use Rattle.cdb_engine.specs.Store.{IsNoStore}
 use Rattle.cdb_front.specs.Devices.{WritesPart}
-use Rattle.cdb_front.specs.RunProgress.{Sight, Entry, Holds, Runs, Ordered, ReachesLast}
+use Rattle.cdb_front.specs.RunProgress.{Sight, RunStart, Holds, Runs, Ordered, ReachesLast}
 use Rattle.cdb_front.specs.StatusCodes.{status_line}
 use Rattle.cdb_front.specs.Stepping.{Counts}
 use Rattle.cdb_front.specs.declared.exit_status.Status.{Status}
@@ -44,24 +44,24 @@ Hears status lines rest heard = heard ≡ []
 
 -- all items had their turn; or, where the output failed, all of the lines before the last one, and at least the first
 -- of the last one
-abbrev pub Makes : Status → ℕ → List Text → List Item → List Item → Type 0
-Makes OutputFault most lines items unmade = ReachesLast most lines items
-Makes status most lines items unmade = unmade ≡ []
+abbrev pub AllMade : Status → ℕ → List Text → List Item → List Item → Type 0
+AllMade OutputFault most lines items unmade = ReachesLast most lines items
+AllMade status most lines items unmade = unmade ≡ []
 
 -- the answers but the last were written whole, and of the last one a part, and not all
-pub record IsPartOf (answers : List machine.Answer) (wrote : Text) : Type 0 where
+pub record IsPartOfAnswers (answers : List machine.Answer) (wrote : Text) : Type 0 where
   pub whole : List machine.Answer
   pub last : machine.Answer
   pub answers_are : answers ≡ whole ++ last ∷ []
   pub part : Text
   pub rest : Text
-  pub joined : text_of last ≡ part ++ rest
+  pub joined : text_of_answer last ≡ part ++ rest
   pub short : rest ≢ []
   pub wrote_is : wrote ≡ texts_of whole ++ part
 
 -- the answers were written whole, or the output failed at the last of them
 abbrev pub WritesAnswers : Status → List machine.Answer → Text → Type 0
-WritesAnswers OutputFault answers wrote = IsPartOf answers wrote
+WritesAnswers OutputFault answers wrote = IsPartOfAnswers answers wrote
 WritesAnswers status answers wrote = wrote ≡ texts_of answers
 
 -- a line was whole: its line feed came after it, or the end of the input
@@ -71,20 +71,20 @@ IsLineEnd left unread = ((unread ≡ []) × IsAtEnd left) ⊎ ((after : Text) ×
 -- why the script ended: the end of the input after fewer than 2 ^ 32 bytes, or the line `quit`, whose line feed is at
 -- most the last of 2 ^ 32; an answer to a whole line that wasn't written whole; a failed read; 2 ^ 32 bytes; nothing
 -- was read. A script looks at no file of the store, so it says of none that it differs
-abbrev pub Finishes : Status → Option (List ℕ) → Text → Text → Text → Type 0
-Finishes Done left read unread rest =
+abbrev pub EndsScript : Status → Option (List ℕ) → Text → Text → Text → Type 0
+EndsScript Done left read unread rest =
     (length read < 2 ^ 32) × (((unread ≡ []) × IsAtEnd left)
     ⊎ ((line_command rest ≡ said.quit) × ((after : Text) × (unread ≡ 10 ∷ after))))
-Finishes OutputFault left read unread rest = (length read < 2 ^ 32) × IsLineEnd left unread
-Finishes InputFault left read unread rest = (unread ≡ []) × (length read < 2 ^ 32)
-Finishes TooLong left read unread rest = (unread ≡ []) × (length read ≡ 2 ^ 32)
-Finishes (Differs path) left read unread rest = ⊥
-Finishes (Refused limit) left read unread rest = ⊥
-Finishes (Damaged expected found) left read unread rest = ⊥
-Finishes status left read unread rest = (unread ≡ []) × (read ≡ [])
+EndsScript OutputFault left read unread rest = (length read < 2 ^ 32) × IsLineEnd left unread
+EndsScript InputFault left read unread rest = (unread ≡ []) × (length read < 2 ^ 32)
+EndsScript TooLong left read unread rest = (unread ≡ []) × (length read ≡ 2 ^ 32)
+EndsScript (Differs path) left read unread rest = ⊥
+EndsScript (Refused limit) left read unread rest = ⊥
+EndsScript (Damaged expected found) left read unread rest = ⊥
+EndsScript status left read unread rest = (unread ≡ []) × (read ≡ [])
 
 -- what was read of the input, what was answered to it, and what was written of that, before the line of the status
-pub record Transcript (e : Entry) (shelf disk : ℕ) (left left' written : Option (List ℕ))
+pub record Transcript (e : RunStart) (shelf disk : ℕ) (left left' written : Option (List ℕ))
     (status : Status) : Type 0 where
   -- what was taken and used, and what came in the same piece of 4,096 bytes after `quit` or after the answer that
   -- wasn't written
@@ -104,7 +104,7 @@ pub record Transcript (e : Entry) (shelf disk : ℕ) (left left' written : Optio
   pub items : List Item
   pub unmade : List Item
   pub items_are : items_of e.most heard ≡ items ++ unmade
-  pub makes : Makes status e.most lines items unmade
+  pub makes : AllMade status e.most lines items unmade
   pub answers : List machine.Answer
   -- no more of them say that the shelf failed, or the disk, than its count rose by
   pub shelf_counted : Counts shelf_fault e.shelf shelf answers
@@ -113,10 +113,10 @@ pub record Transcript (e : Entry) (shelf disk : ℕ) (left left' written : Optio
   pub wrote : Text
   pub appended : Appends e.written written wrote
   pub writes : WritesAnswers status answers wrote
-  pub finishes : Finishes status left' read unread rest
+  pub finishes : EndsScript status left' read unread rest
 
 -- the script ended: a run, where the store is known, and one whatever the disk holds, each to a state of now
-pub record Stops (tells : Type 0) (e : Entry) (shelf disk : ℕ) (left left' written : Option (List ℕ)) (Now : Sight)
+pub record StopsScript (tells : Type 0) (e : RunStart) (shelf disk : ℕ) (left left' written : Option (List ℕ)) (Now : Sight)
     (status : Status) : Type 0 where
   pub transcript : Transcript e shelf disk left left' written status
   pub run : Runs (Holds tells e.files) e.from transcript.items transcript.answers (Now known)
@@ -148,12 +148,12 @@ WasOpened TooLong = Unit {0}
 WasOpened status = ⊥
 
 -- no store was opened
-abbrev pub IsClosed : Status → Type 0
-IsClosed Memory = Unit {0}
-IsClosed Usage = Unit {0}
-IsClosed StoreFault = Unit {0}
-IsClosed (NotAStore version place) = Unit {0}
-IsClosed status = ⊥
+abbrev pub HasNoStore : Status → Type 0
+HasNoStore Memory = Unit {0}
+HasNoStore Usage = Unit {0}
+HasNoStore StoreFault = Unit {0}
+HasNoStore (NotAStore version place) = Unit {0}
+HasNoStore status = ⊥
 
 -- how a run ends that couldn't open its store
 abbrev pub status_of : OpenError → Status
@@ -175,23 +175,23 @@ StandsAtExit status base begun kept m = StandsKept base.list begun kept m ⊎ St
 
 -- what a run finds that begins on the same disk without a stop: a whole one, or one that a fault left, where it is
 -- clear
-pub record IsAtRest (s : State) (d : disk.State) : Type 0 where
+pub record IsLeftAtRest (s : KnownState) (d : disk.State) : Type 0 where
   pub whole : s.halted ≡ None → IsWhole Stands s.list d
   pub faulted : (x : Publication) → s.halted ≡ Some x → IsClear d → IsFaulted Stands s.list x d
   pub idle : (x : Publication) → s.halted ≡ Some x → s.going ≡ None
 
 -- of a run that ended in opening nothing is said
-abbrev pub RestsAt : Status → State → disk.State → Type 0
-RestsAt Done s d = IsAtRest s d
-RestsAt InputFault s d = IsAtRest s d
-RestsAt OutputFault s d = IsAtRest s d
-RestsAt TooLong s d = IsAtRest s d
+abbrev pub RestsAt : Status → KnownState → disk.State → Type 0
+RestsAt Done s d = IsLeftAtRest s d
+RestsAt InputFault s d = IsLeftAtRest s d
+RestsAt OutputFault s d = IsLeftAtRest s d
+RestsAt TooLong s d = IsLeftAtRest s d
 RestsAt status s d = Unit {0}
 
 -- the run over a store: whatever a crash since it began may have left, and whatever it may leave now
 pub record Ended (Has : Text → Content → Type 0) (base : Base) (status : Status) (items : List Item)
     (answers : List machine.Answer) (wrote : Text) (Since : FileMap → Type 0) (d : disk.State) : Type 0 where
-  pub state : State
+  pub state : KnownState
   pub run : Run Has (start_at base.list) items answers state
   pub begun : List Publication
   pub has_begun : HasBegun base.list state begun
@@ -224,7 +224,7 @@ SaysStore tells present status = tells → HasRecords present
 -- ---- the whole run
 
 -- what the loop left, and the line of the status that it stopped with
-pub record Outcome (tells : Type 0) (e : Entry) (shelf faults : ℕ) (left left' written' : Option (List ℕ))
+pub record Outcome (tells : Type 0) (e : RunStart) (shelf faults : ℕ) (left left' written' : Option (List ℕ))
     (Since : FileMap → Type 0) (d : disk.State) (result : Status) : Type 0 where
   pub status : Status
   pub written : Option (List ℕ)

@@ -7,11 +7,11 @@ use Rattle.cdb_model.specs.Commands as said
 use Rattle.cdb_model.specs.Commands.{Command, line_command}
 use Rattle.cdb_model.specs.Lines.{Cut, HaveNoQuit}
 use Rattle.cdb_model.specs.Events as machine
-use Rattle.cdb_model.specs.Stores.{Which, known, any, kind_of, any_store}
+use Rattle.cdb_model.specs.Stores.{Which, known, any, store_kind, any_store}
 use Rattle.cdb_model.specs.Transitions.{StateIn, IsFreshIn}
-use Rattle.cdb_model.specs.KnownStore.{State, start_at}
+use Rattle.cdb_model.specs.KnownStore.{KnownState, start_at}
 use Rattle.cdb_model.specs.Runs.{Item, Run, RunIn, PassesIn, items_of}
-use Rattle.cdb_model.specs.AnswerTexts.{text_of, texts_of, shelf_fault, disk_fault}
+use Rattle.cdb_model.specs.AnswerTexts.{text_of_answer, texts_of, shelf_fault, disk_fault}
 use Rattle.cdb_model.specs.Images.{Base}
 use Rattle.cdb_front.specs.Devices.{WritesPart}
 use Rattle.cdb_engine.specs.Tracks.{Leads}
@@ -22,11 +22,11 @@ use Rattle.cdb_front.specs.declared.fed.Fed.TheVariants as fed
 
 -- states of a known store, and of any
 abbrev pub Sight : Type 1
-Sight = (w : Which) → StateIn (kind_of w) → Type 0
+Sight = (w : Which) → StateIn (store_kind w) → Type 0
 
 -- what a run began with: the files of the shelf, the counts of failures of shelf and disk, what was written before, the
 -- store on the disk, where that is known, and how many steps follow a line
-pub record Entry : Type 0 where
+pub record RunStart : Type 0 where
   pub files : FileMap
   pub shelf : ℕ
   pub disk : ℕ
@@ -44,7 +44,7 @@ abbrev pub Holds : Type 0 → FileMap → Text → Content → Type 0
 Holds tells files path content = tells → content ≡ files path
 
 -- where the store is known, the answers are those of a run from its list over these items, to a state of now
-abbrev pub Runs : (Text → Content → Type 0) → Option Base → List Item → List machine.Answer → (State → Type 0) → Type 0
+abbrev pub Runs : (Text → Content → Type 0) → Option Base → List Item → List machine.Answer → (KnownState → Type 0) → Type 0
 Runs Has None items answers Now = Unit {0}
 Runs Has (Some base) items answers Now = Leads (Run Has (start_at base.list) items answers) Now
 
@@ -56,7 +56,7 @@ pub record Ordered (Has : Text → Content → Type 0) (items : List Item) (answ
   pub leads : Leads (RunIn any_store Has start items answers) Now
 
 -- items were gone through and their answers written
-pub record Told (tells : Type 0) (e : Entry) (items : List Item) (written : Option (List ℕ)) (shelf disk : ℕ)
+pub record Told (tells : Type 0) (e : RunStart) (items : List Item) (written : Option (List ℕ)) (shelf disk : ℕ)
     (Now : Sight) : Type 0 where
   pub answers : List machine.Answer
   pub run : Runs (Holds tells e.files) e.from items answers (Now known)
@@ -66,7 +66,7 @@ pub record Told (tells : Type 0) (e : Entry) (items : List Item) (written : Opti
   pub appended : Appends e.written written (texts_of answers)
 
 -- the same, but for a part of the last answer
-pub record Torn (tells : Type 0) (e : Entry) (items : List Item) (written : Option (List ℕ)) (shelf disk : ℕ)
+pub record Torn (tells : Type 0) (e : RunStart) (items : List Item) (written : Option (List ℕ)) (shelf disk : ℕ)
     (Now : Sight) : Type 0 where
   pub whole : List machine.Answer
   pub answer : machine.Answer
@@ -76,7 +76,7 @@ pub record Torn (tells : Type 0) (e : Entry) (items : List Item) (written : Opti
   pub disk_counted : Counts disk_fault e.disk disk (whole ++ answer ∷ [])
   pub part : Text
   pub unwritten : Text
-  pub joined : text_of answer ≡ part ++ unwritten
+  pub joined : text_of_answer answer ≡ part ++ unwritten
   pub short : unwritten ≢ []
   pub appended : Appends e.written written (texts_of whole ++ part)
 
@@ -84,8 +84,8 @@ pub record Torn (tells : Type 0) (e : Entry) (items : List Item) (written : Opti
 pub record Speaks (tells : Type 0) (files : FileMap) (item : Item) (before now : Option (List ℕ))
     (shelf shelf' disk disk' : ℕ) (Old New : Sight) : Type 0 where
   pub answers : List machine.Answer
-  pub passes : (w : Which) (s : StateIn (kind_of w)) → Old w s
-      → Leads (PassesIn (kind_of w) (Holds tells files) s item answers) (New w)
+  pub passes : (w : Which) (s : StateIn (store_kind w)) → Old w s
+      → Leads (PassesIn (store_kind w) (Holds tells files) s item answers) (New w)
   pub shelf_counted : Counts shelf_fault shelf shelf' answers
   pub disk_counted : Counts disk_fault disk disk' answers
   pub written : Appends before now (texts_of answers)
@@ -93,11 +93,11 @@ pub record Speaks (tells : Type 0) (files : FileMap) (item : Item) (before now :
 pub record Stammers (tells : Type 0) (files : FileMap) (item : Item) (before now : Option (List ℕ))
     (shelf shelf' disk disk' : ℕ) (Old New : Sight) : Type 0 where
   pub answer : machine.Answer
-  pub passes : (w : Which) (s : StateIn (kind_of w)) → Old w s
-      → Leads (PassesIn (kind_of w) (Holds tells files) s item (answer ∷ [])) (New w)
+  pub passes : (w : Which) (s : StateIn (store_kind w)) → Old w s
+      → Leads (PassesIn (store_kind w) (Holds tells files) s item (answer ∷ [])) (New w)
   pub shelf_counted : Counts shelf_fault shelf shelf' (answer ∷ [])
   pub disk_counted : Counts disk_fault disk disk' (answer ∷ [])
-  pub written : WritesPart before now (text_of answer)
+  pub written : WritesPart before now (text_of_answer answer)
 
 abbrev pub SpeaksFed : Type 0 → FileMap → Fed → Item → Option (List ℕ) → Option (List ℕ) → ℕ → ℕ → ℕ → ℕ → Sight
     → Sight → Type 0
@@ -108,7 +108,7 @@ SpeaksFed tells files fed.Failed item before now shelf shelf' disk disk' Old New
 SpeaksFed tells files fed.Quit item before now shelf shelf' disk disk' Old New = ⊥
 
 -- whole lines were read and answered, and the beginning of the next line is kept
-pub record Sofar (tells : Type 0) (e : Entry) (read : Text) (written : Option (List ℕ)) (shelf disk : ℕ) (Now : Sight)
+pub record RunSoFar (tells : Type 0) (e : RunStart) (read : Text) (written : Option (List ℕ)) (shelf disk : ℕ) (Now : Sight)
     (kept : Option (List ℕ)) : Type 0 where
   pub lines : List Text
   pub rest : Text
@@ -118,7 +118,7 @@ pub record Sofar (tells : Type 0) (e : Entry) (read : Text) (written : Option (L
   pub kept_is : kept ≡ kept_of rest
 
 -- what was read is answered whole, its last line too, which is `quit` or isn't
-pub record Answered (tells : Type 0) (e : Entry) (P : Text → Type 0) (read : Text) (written : Option (List ℕ))
+pub record Answered (tells : Type 0) (e : RunStart) (P : Text → Type 0) (read : Text) (written : Option (List ℕ))
     (shelf disk : ℕ) (Now : Sight) : Type 0 where
   pub lines : List Text
   pub rest : Text
@@ -140,7 +140,7 @@ pub record ReachesLast (most : ℕ) (lines : List Text) (items : List Item) : Ty
   pub items_are : items ≡ items_of most lines ++ first ∷ made
 
 -- the last answer to what was read wasn't written whole; some items of the last line may not have come to their turn
-pub record Broken (tells : Type 0) (e : Entry) (read : Text) (written : Option (List ℕ)) (shelf disk : ℕ)
+pub record Broken (tells : Type 0) (e : RunStart) (read : Text) (written : Option (List ℕ)) (shelf disk : ℕ)
     (Now : Sight) : Type 0 where
   pub lines : List Text
   pub rest : Text
@@ -153,14 +153,14 @@ pub record Broken (tells : Type 0) (e : Entry) (read : Text) (written : Option (
   pub torn : Torn tells e items written shelf disk Now
 
 -- a line was taken
-abbrev pub TakesLine : Type 0 → Entry → Fed → Text → Option (List ℕ) → ℕ → ℕ → Sight → Type 0
+abbrev pub TakesLine : Type 0 → RunStart → Fed → Text → Option (List ℕ) → ℕ → ℕ → Sight → Type 0
 TakesLine tells e fed.More read written shelf disk Now = Answered tells e IsNotQuit read written shelf disk Now
 TakesLine tells e fed.Quit read written shelf disk Now = Answered tells e IsQuit read written shelf disk Now
 TakesLine tells e fed.Failed read written shelf disk Now = Broken tells e read written shelf disk Now
 
 -- a byte was taken
-abbrev pub TakesByte : Type 0 → Entry → Fed → Text → ℕ → Option (List ℕ) → ℕ → ℕ → Sight → Option (List ℕ) → Type 0
-TakesByte tells e fed.More read byte written shelf disk Now kept = Sofar tells e (read ++ byte ∷ []) written
+abbrev pub TakesByte : Type 0 → RunStart → Fed → Text → ℕ → Option (List ℕ) → ℕ → ℕ → Sight → Option (List ℕ) → Type 0
+TakesByte tells e fed.More read byte written shelf disk Now kept = RunSoFar tells e (read ++ byte ∷ []) written
     shelf disk Now kept
 TakesByte tells e fed.Quit read byte written shelf disk Now kept = Answered tells e IsQuit read written shelf disk Now
 TakesByte tells e fed.Failed read byte written shelf disk Now kept = Broken tells e read written shelf disk Now
@@ -172,8 +172,8 @@ pub record UpTo (piece : Text) (X : Text → Type 0) : Type 0 where
   pub joined : piece ≡ front ++ 10 ∷ back
   pub reached : X front
 
-abbrev pub TakesPiece : Type 0 → Entry → Fed → Text → Text → Option (List ℕ) → ℕ → ℕ → Sight → Option (List ℕ) → Type 0
-TakesPiece tells e fed.More read piece written shelf disk Now kept = Sofar tells e (read ++ piece) written
+abbrev pub TakesPiece : Type 0 → RunStart → Fed → Text → Text → Option (List ℕ) → ℕ → ℕ → Sight → Option (List ℕ) → Type 0
+TakesPiece tells e fed.More read piece written shelf disk Now kept = RunSoFar tells e (read ++ piece) written
     shelf disk Now kept
 TakesPiece tells e fed.Quit read piece written shelf disk Now kept = UpTo piece
     (λ front. Answered tells e IsQuit (read ++ front) written shelf disk Now)
@@ -183,7 +183,7 @@ TakesPiece tells e fed.Failed read piece written shelf disk Now kept = UpTo piec
 -- ---- a line and the steps after it
 
 -- a line was answered, but for a part of the last answer
-pub record TornIn (tells : Type 0) (e : Entry) (items more : List Item) (written : Option (List ℕ)) (shelf disk : ℕ)
+pub record TornIn (tells : Type 0) (e : RunStart) (items more : List Item) (written : Option (List ℕ)) (shelf disk : ℕ)
     (Now : Sight) : Type 0 where
   pub first : Item
   pub made : List Item
@@ -191,7 +191,7 @@ pub record TornIn (tells : Type 0) (e : Entry) (items more : List Item) (written
   pub joined : more ≡ first ∷ made ++ unmade
   pub torn : Torn tells e (items ++ first ∷ made) written shelf disk Now
 
-abbrev pub TellsFed : Type 0 → Entry → Fed → List Item → List Item → Option (List ℕ) → ℕ → ℕ → Sight → Type 0
+abbrev pub TellsFed : Type 0 → RunStart → Fed → List Item → List Item → Option (List ℕ) → ℕ → ℕ → Sight → Type 0
 TellsFed tells e fed.More items more written shelf disk Now = Told tells e (items ++ more) written shelf disk Now
 TellsFed tells e fed.Quit items more written shelf disk Now = ⊥
 TellsFed tells e fed.Failed items more written shelf disk Now = TornIn tells e items more written shelf disk Now

@@ -2,26 +2,26 @@
 use Rattle.std.specs.Prelude.{◌≡◌, ℕ, ◌+◌, ◌<◌, ◌≤◌, List, length, Option}
 use Rattle.std.specs.Io.KnownBytes.{Consumes}
 use Rattle.cdb_model.specs.Text.{Text}
-use Rattle.cdb_front.specs.RunProgress.{Sight, Entry, Sofar}
-use Rattle.cdb_front.specs.RunOutcome.{Stops, WasOpened}
+use Rattle.cdb_front.specs.RunProgress.{Sight, RunStart, RunSoFar}
+use Rattle.cdb_front.specs.RunOutcome.{StopsScript, WasOpened}
 use Rattle.cdb_front.specs.declared.read_turn.Turned.{Turned}
 use Rattle.cdb_front.specs.declared.read_turn.Turned.TheVariants.{Taken, Stopped}
 
 -- so many bytes were taken from the input, and their whole lines answered
-pub record Reading (tells : Type 0) (e : Entry) (left left' written : Option (List ℕ)) (shelf disk : ℕ) (Now : Sight)
+pub record Reading (tells : Type 0) (e : RunStart) (left left' written : Option (List ℕ)) (shelf disk : ℕ) (Now : Sight)
     (kept : Option (List ℕ)) (taken : ℕ) : Type 0 where
   pub read : Text
   pub input : Consumes left left' read
-  pub sofar : Sofar tells e read written shelf disk Now kept
+  pub sofar : RunSoFar tells e read written shelf disk Now kept
   pub count : taken ≡ length read
 
 -- after one read of the input
-abbrev pub TakesTurn : Type 0 → Entry → Turned → ℕ → ℕ → Option (List ℕ) → Option (List ℕ) → Option (List ℕ) → Sight
+abbrev pub TakesTurn : Type 0 → RunStart → Turned → ℕ → ℕ → Option (List ℕ) → Option (List ℕ) → Option (List ℕ) → Sight
     → Option (List ℕ) → ℕ → Type 0
 TakesTurn tells e (Taken count) shelf disk left left' written Now kept taken =
     Reading tells e left left' written shelf disk Now kept (taken + count)
 TakesTurn tells e (Stopped status) shelf disk left left' written Now kept taken =
-    Stops tells e shelf disk left left' written Now status
+    StopsScript tells e shelf disk left left' written Now status
 
 -- what is taken by one read is some of what there was room for
 abbrev pub TakesSome : Turned → ℕ → Type 0

@@ -9,7 +9,7 @@ use Rattle.cdb_model.specs.Events as machine
 use Rattle.cdb_model.specs.Events.{Answer}
 use Rattle.cdb_model.specs.Grammar as grammar
 use Rattle.cdb_model.specs.Images.{Base}
-use Rattle.cdb_model.specs.KnownStore.{State, start_at}
+use Rattle.cdb_model.specs.KnownStore.{KnownState, start_at}
 use Rattle.cdb_model.specs.Maps.{Content, FileMap}
 use Rattle.cdb_model.specs.Names.{name}
 use Rattle.cdb_model.specs.Publications.{sources_up_to, heads_of}
@@ -24,7 +24,7 @@ use Rattle.cdb_front.specs.RunProgress.{Holds}
 
 -- a line asks for a tile in an open session, and this holds of the tile and of the sources of the publications up to the
 -- session's version
-pub record AsksFor (s : State) (command : Command) (P : List Source → Tile → Type 0) : Type 0 where
+pub record AsksFor (s : KnownState) (command : Command) (P : List Source → Tile → Type 0) : Type 0 where
   pub id : ℕ
   pub tile : Tile
   pub session : Session
@@ -34,15 +34,15 @@ pub record AsksFor (s : State) (command : Command) (P : List Source → Tile →
 
 -- a tile that is answered has the bytes of a build from nothing of these sources, one of which reaches it; none does
 -- where it is missing
-abbrev pub IsServed : State → Command → Answer → Type 0
+abbrev pub IsServed : KnownState → Command → Answer → Type 0
 IsServed s command (machine.tile bytes) =
     AsksFor s command (λ sources tile. Reached (heads_of sources) tile × (bytes ≡ tile_bytes sources tile))
 IsServed s command machine.missing = AsksFor s command (λ sources tile. Reached (heads_of sources) tile → ⊥)
 IsServed s command answer = Unit {0}
 
 -- so it is with each line of a run
-abbrev pub EachServed : (Has : Text → Content → Type 0) (old : State) (items : List Item) (answers : List Answer)
-    (new : State) → Run Has old items answers new → Type 0
+abbrev pub EachServed : (Has : Text → Content → Type 0) (old : KnownState) (items : List Item) (answers : List Answer)
+    (new : KnownState) → Run Has old items answers new → Type 0
 EachServed Has old [] answers new run = Unit {0}
 EachServed Has old (line command ∷ items) answers new run =
     IsServed old command run.passes.answer × EachServed Has run.mid items run.later new run.rest

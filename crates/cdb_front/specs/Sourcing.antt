@@ -3,7 +3,7 @@ use Rattle.cdb_model.specs.Events as machine
 use Rattle.cdb_model.specs.Grammar.{FileSource}
 use Rattle.cdb_model.specs.Maps.{Content, FileMap}
 use Rattle.cdb_model.specs.Stores.{Kind}
-use Rattle.cdb_model.specs.Transitions.{StateIn, LoadsIn}
+use Rattle.cdb_model.specs.Transitions.{StateIn, SourceLineIn}
 use Rattle.cdb_engine.specs.declared.errors.InlineError.{InlineError}
 use Rattle.cdb_engine.specs.declared.errors.InlineError.TheVariants as inline
 use Rattle.cdb_engine.specs.declared.errors.LoadError.{LoadError}
@@ -29,4 +29,4 @@ pub record LoadsFrom (k : Kind) (tells : Type 0) (files : FileMap) (old : StateI
     (answer : machine.Answer) (new : StateIn k) : Type 0 where
   pub content : Content
   pub holds : Holds tells files w.path content
-  pub step : LoadsIn k old w content answer new
+  pub step : SourceLineIn k old w content answer new

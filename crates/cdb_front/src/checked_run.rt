@@ -10,7 +10,7 @@ ghost use Rattle.cdb_front.specs.RunOutcome.{SaysStore};
 use crate::answer_text::line_with_two;
 use crate::end_run::end;
 use crate::exit_status::Status;
-use crate::opened_run::unopened;
+use crate::opened_run::open_status;
 use crate::output::Output;
 use crate::write::write_all;
 use cdb_engine::{Agreed, CheckError, Engine};
@@ -18,7 +18,7 @@ use cdb_files::{Disk, Failed};
 use std::alloc::Global;
 
 /// How a run ends whose check failed.
-fn unagreed(error: CheckError) -> Status
+fn check_status(error: CheckError) -> Status
     ensures status { result ≡ checked_status error }
     ensures fault { result ≡ Status.StoreFault → error ≡ CheckError.Fault }
     ensures words { result ≢ Status.Usage }
@@ -60,13 +60,13 @@ pub fn check_over<D: Disk, O: Output>(alloc: Global, disk: &mut D, output: &mut 
 {
     let engine = match Engine::open(alloc, disk) {
         Ok(engine) => engine,
-        Err(error) => return end(output, unopened(error)),
+        Err(error) => return end(output, open_status(error)),
     };
     match engine.check(alloc, disk) {
         Ok(agreed) => match say_agreed(output, agreed) {
             Ok(()) => Status::Done,
             Err(_) => Status::OutputFault,
         },
-        Err(error) => end(output, unagreed(error)),
+        Err(error) => end(output, check_status(error)),
     }
 }

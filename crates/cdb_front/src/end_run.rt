@@ -13,7 +13,7 @@ use arrayvec::ArrayString;
 use cdb_files::Path;
 
 /// A line as one with room for a path.
-fn widened(line: ArrayString<64>) -> ArrayString<160>
+fn widen(line: ArrayString<64>) -> ArrayString<160>
     ensures { result.bytes ≡ line.bytes }
 {
     let mut wide = ArrayString::new();
@@ -49,18 +49,18 @@ fn line_of(status: &Status) -> ArrayString<160>
 {
     match status {
         Status::Done | Status::OutputFault => ArrayString::new(),
-        Status::Memory => widened(line(word("cdb: out of memory"))),
-        Status::Usage => widened(line(word("cdb: usage"))),
-        Status::InputFault => widened(line(word("cdb: input fault"))),
-        Status::StoreFault => widened(line(word("cdb: store fault"))),
+        Status::Memory => widen(line(word("cdb: out of memory"))),
+        Status::Usage => widen(line(word("cdb: usage"))),
+        Status::InputFault => widen(line(word("cdb: input fault"))),
+        Status::StoreFault => widen(line(word("cdb: store fault"))),
         Status::NotAStore { version, place } => {
-            widened(line_with_two("cdb: not a store", *version, *place))
+            widen(line_with_two("cdb: not a store", *version, *place))
         }
-        Status::TooLong => widened(line(word("cdb: input too long"))),
+        Status::TooLong => widen(line(word("cdb: input too long"))),
         Status::Differs { path } => path_line("cdb: differs ", path),
-        Status::Refused(limit) => widened(limit_line(limit)),
+        Status::Refused(limit) => widen(limit_line(limit)),
         Status::Damaged { expected, found } => {
-            widened(sizes_line("cdb: damaged", *expected, *found))
+            widen(sizes_line("cdb: damaged", *expected, *found))
         }
     }
 }

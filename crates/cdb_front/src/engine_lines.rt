@@ -1,8 +1,8 @@
 //! Lines that ask for a publication, a session, a tile or the newest version.
 ghost use Rattle.std.specs.Prelude.{◌≡◌, ◌≤◌, ◌∷◌, []};
 ghost use Rattle.cdb_model.specs.AnswerTexts.{disk_fault};
-ghost use Rattle.cdb_model.specs.Stores.{Which, kind_of};
-ghost use Rattle.cdb_model.specs.Transitions.{StateIn, BeginsIn, ConnectsIn, DisconnectsIn, AsksIn, TellsIn};
+ghost use Rattle.cdb_model.specs.Stores.{Which, store_kind};
+ghost use Rattle.cdb_model.specs.Transitions.{StateIn, PublishLineIn, OpenLineIn, CloseLineIn, TileLineIn, VersionsLineIn};
 ghost use Rattle.cdb_engine.specs.Stays.{Stays, Shows, ChangesAlike};
 ghost use Rattle.cdb_engine.specs.Tracks.{Origin, Leads};
 ghost use Rattle.cdb_front.specs.AnswerMeanings.{meant, HasLength, IsOrdinary, IsQuiet};
@@ -17,9 +17,9 @@ use std::alloc::Global;
 
 /// Begins a publication.
 pub fn publish<D: Disk>(alloc: Global, engine: &mut Engine, disk: &mut D) -> Answer
-    ensures begins { (w : Which) (origin : Origin) (s : StateIn (kind_of w))
+    ensures begins { (w : Which) (origin : Origin) (s : StateIn (store_kind w))
         → Stays D.tells D.clock D.fault_count D.since D.state origin disk.old engine.old w s
-        → Leads (BeginsIn (kind_of w) s (meant result engine.new.reply))
+        → Leads (PublishLineIn (store_kind w) s (meant result engine.new.reply))
         (Stays D.tells D.clock D.fault_count D.since D.state origin disk.new engine.new w) }
     ensures ordinary { IsOrdinary result }
     ensures disk { disk.new ≡ disk.old }
@@ -29,8 +29,8 @@ pub fn publish<D: Disk>(alloc: Global, engine: &mut Engine, disk: &mut D) -> Ans
 
 /// Opens a session.
 pub fn connect(engine: &mut Engine) -> Answer
-    ensures connects { (w : Which) (s : StateIn (kind_of w)) → Shows engine.old w s
-        → Leads (ConnectsIn (kind_of w) s (meant result engine.new.reply))
+    ensures connects { (w : Which) (s : StateIn (store_kind w)) → Shows engine.old w s
+        → Leads (OpenLineIn (store_kind w) s (meant result engine.new.reply))
         (ChangesAlike engine.old engine.new w s) }
     ensures ordinary { IsOrdinary result }
 {
@@ -39,8 +39,8 @@ pub fn connect(engine: &mut Engine) -> Answer
 
 /// Closes a session.
 pub fn disconnect(engine: &mut Engine, id: u32) -> Answer
-    ensures disconnects { (w : Which) (s : StateIn (kind_of w)) → Shows engine.old w s
-        → Leads (DisconnectsIn (kind_of w) s id (meant result engine.new.reply))
+    ensures disconnects { (w : Which) (s : StateIn (store_kind w)) → Shows engine.old w s
+        → Leads (CloseLineIn (store_kind w) s id (meant result engine.new.reply))
         (ChangesAlike engine.old engine.new w s) }
     ensures ordinary { IsOrdinary result }
 {
@@ -49,9 +49,9 @@ pub fn disconnect(engine: &mut Engine, id: u32) -> Answer
 
 /// Asks for a tile in a session.
 pub fn ask<D: Disk>(engine: &mut Engine, id: u32, tile: &Tile, disk: &mut D) -> Answer
-    ensures asks { (w : Which) (origin : Origin) (s : StateIn (kind_of w))
+    ensures asks { (w : Which) (origin : Origin) (s : StateIn (store_kind w))
         → Stays D.tells D.clock D.fault_count D.since D.state origin disk.old engine.old w s
-        → Leads (AsksIn (kind_of w) s id tile.now (meant result engine.new.reply))
+        → Leads (TileLineIn (store_kind w) s id tile.now (meant result engine.new.reply))
         (Stays D.tells D.clock D.fault_count D.since D.state origin disk.new engine.new w) }
     ensures length { HasLength result engine.new.reply }
     ensures quiet { IsQuiet result }
@@ -64,8 +64,8 @@ pub fn ask<D: Disk>(engine: &mut Engine, id: u32, tile: &Tile, disk: &mut D) -> 
 
 /// Tells the newest version.
 pub fn tell(engine: &Engine) -> Answer
-    ensures tells { (w : Which) (s : StateIn (kind_of w)) → Shows engine.now w s
-        → TellsIn (kind_of w) s (meant result engine.now.reply) s }
+    ensures tells { (w : Which) (s : StateIn (store_kind w)) → Shows engine.now w s
+        → VersionsLineIn (store_kind w) s (meant result engine.now.reply) s }
     ensures ordinary { IsOrdinary result }
 {
     Answer::Versions(engine.versions())

@@ -12,7 +12,7 @@ ghost use Rattle.cdb_front.specs.RunOutcome.{SaysStore};
 use crate::answer_text::{line, line_with, word};
 use crate::end_run::end;
 use crate::exit_status::{Limit, Status};
-use crate::opened_run::unopened;
+use crate::opened_run::open_status;
 use crate::output::Output;
 use crate::write::write_all;
 use arrayvec::ArrayString;
@@ -22,7 +22,7 @@ use itoa::Buffer;
 use std::alloc::Global;
 
 /// How a run ends that couldn't make all publications.
-fn unmade(error: PopulateError) -> Status
+fn fill_status(error: PopulateError) -> Status
     ensures status { result ≡ made_status error }
     ensures fault { result ≡ Status.StoreFault → error ≡ PopulateError.Fault }
     ensures words { result ≢ Status.Usage }
@@ -92,13 +92,13 @@ pub fn fill_over<D: Disk, O: Output>(
 {
     let mut engine = match Engine::open(alloc, disk) {
         Ok(engine) => engine,
-        Err(error) => return end(output, unopened(error)),
+        Err(error) => return end(output, open_status(error)),
     };
     match populate(alloc, &mut engine, disk, start, count) {
         Ok(made) => match say_made(output, made) {
             Ok(()) => Status::Done,
             Err(_) => Status::OutputFault,
         },
-        Err(error) => end(output, unmade(error)),
+        Err(error) => end(output, fill_status(error)),
     }
 }

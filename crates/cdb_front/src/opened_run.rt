@@ -2,7 +2,7 @@ ghost use Rattle.std.specs.Prelude.{◌≡◌, ◌≢◌, ◌+◌, ◌≤◌, �
 ghost use Rattle.cdb_model.specs.Causes.{Rose};
 ghost use Rattle.cdb_front.specs.Failures.{WritesOnce};
 ghost use Rattle.cdb_front.specs.Headline.{MeetsOf};
-ghost use Rattle.cdb_front.specs.RunOutcome.{QuitsInTime, SaysStore, IsClosed, status_of};
+ghost use Rattle.cdb_front.specs.RunOutcome.{QuitsInTime, SaysStore, HasNoStore, status_of};
 
 use crate::end_run::end;
 use crate::exit_status::Status;
@@ -14,9 +14,9 @@ use cdb_files::{Disk, Shelf};
 use std::alloc::Global;
 
 /// How a run ends that couldn't open its store.
-pub fn unopened(error: OpenError) -> Status
+pub fn open_status(error: OpenError) -> Status
     ensures status { result ≡ status_of error }
-    ensures closed { IsClosed result }
+    ensures closed { HasNoStore result }
     ensures fault { result ≡ Status.StoreFault → error ≡ OpenError.Fault }
     ensures words { result ≢ Status.Usage }
     ensures input { result ≢ Status.InputFault }
@@ -62,6 +62,6 @@ pub fn run_over<D: Disk, H: Shelf, I: Input, O: Output>(
             let status = run_script(alloc, &mut engine, disk, shelf, input, output, most);
             end(output, status)
         }
-        Err(error) => end(output, unopened(error)),
+        Err(error) => end(output, open_status(error)),
     }
 }

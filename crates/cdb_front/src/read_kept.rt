@@ -1,7 +1,7 @@
 ghost use Rattle.std.specs.Prelude.{◌≡◌, ℕ, List};
 ghost use Rattle.cdb_model.specs.Commands.{line_command, spoken};
 ghost use Rattle.cdb_model.specs.Grammar.{line_of};
-ghost use Rattle.cdb_front.specs.Hearing.{IsHeard, Says};
+ghost use Rattle.cdb_front.specs.Hearing.{IsHeard, HearsCommand};
 ghost use Rattle.cdb_front.specs.Kept.{kept_of};
 
 use crate::heard::{Asked, Heard};
@@ -11,7 +11,7 @@ use cdb_model::{Line, LineError};
 
 /// What a line of at most 4,096 bytes is.
 fn hear(bytes: &[u8]) -> Heard
-    ensures said { Says result (spoken (line_of bytes.now)) }
+    ensures said { HearsCommand result (spoken (line_of bytes.now)) }
     ensures heard { IsHeard result }
 {
     match read_line(bytes) {
@@ -25,7 +25,7 @@ fn hear(bytes: &[u8]) -> Heard
 
 /// What the line that was kept is.
 pub fn read_kept(maker: &LineMaker) -> Heard
-    ensures said { (text : List ℕ) → maker.now ≡ kept_of text → Says result (line_command text) }
+    ensures said { (text : List ℕ) → maker.now ≡ kept_of text → HearsCommand result (line_command text) }
     ensures heard { IsHeard result }
 {
     match maker.line() {

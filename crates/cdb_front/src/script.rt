@@ -2,8 +2,8 @@ ghost use Rattle.std.specs.Prelude.{◌≡◌, ◌≢◌, [], ◌+◌, ◌<◌, 
 ghost use Rattle.std.specs.Io.KnownBytes.{Consumes, IsAtEnd};
 ghost use Rattle.cdb_model.specs.Causes.{Rose};
 ghost use Rattle.cdb_front.specs.Failures.{WritesOnce, ReadsOnce, WritesInTurn, ReadsInTurn};
-ghost use Rattle.cdb_front.specs.RunProgress.{Entry, base_of, Told};
-ghost use Rattle.cdb_front.specs.RunOutcome.{Stops, WasOpened};
+ghost use Rattle.cdb_front.specs.RunProgress.{RunStart, base_of, Told};
+ghost use Rattle.cdb_front.specs.RunOutcome.{StopsScript, WasOpened};
 ghost use Rattle.cdb_front.specs.RunReading.{Reading, TakesTurn, TakesSome, StopsOpened};
 
 use crate::exit_status::Status;
@@ -33,12 +33,12 @@ fn take_end<D: Disk, H: Shelf, E: StoreCalls<D>, O: Output>(
     output: &mut O,
     most: u32,
 ) -> Status
-    ensures stops { (e : Entry) (left now end : Option (List ℕ)) (taken : ℕ) → H.files shelf.old ≡ e.files
+    ensures stops { (e : RunStart) (left now end : Option (List ℕ)) (taken : ℕ) → H.files shelf.old ≡ e.files
         → e.most ≡ most → taken < 2 ^ 32
         → Reading H.tells e left now (O.written output.old) (H.fault_count shelf.old) (D.fault_count disk.old)
         (E.stays engine.old disk.old (base_of e.from)) maker.now taken
         → Consumes now end [] → IsAtEnd end
-        → Stops H.tells e (H.fault_count shelf.new) (D.fault_count disk.new) left end (O.written output.new)
+        → StopsScript H.tells e (H.fault_count shelf.new) (D.fault_count disk.new) left end (O.written output.new)
         (E.stays engine.new disk.new (base_of e.from)) result }
     ensures status { result ≢ Status.InputFault }
     ensures opened { WasOpened result }
@@ -69,7 +69,7 @@ fn take_turn<D: Disk, H: Shelf, E: StoreCalls<D>, I: Input, O: Output>(
     into: &mut [u8],
 ) -> Turned
     requires { 0 < length into.old }
-    ensures turn { (e : Entry) (left : Option (List ℕ)) (taken : ℕ) → H.files shelf.old ≡ e.files → e.most ≡ most
+    ensures turn { (e : RunStart) (left : Option (List ℕ)) (taken : ℕ) → H.files shelf.old ≡ e.files → e.most ≡ most
         → taken < 2 ^ 32 → taken + length into.old ≤ 2 ^ 32 → length into.old ≤ 4096
         → Reading H.tells e left (I.left input.old) (O.written output.old) (H.fault_count shelf.old)
         (D.fault_count disk.old) (E.stays engine.old disk.old (base_of e.from)) maker.old taken
@@ -123,10 +123,10 @@ pub fn run_script<D: Disk, H: Shelf, E: StoreCalls<D>, I: Input, O: Output>(
     output: &mut O,
     most: u32,
 ) -> Status
-    ensures stops { (e : Entry) → H.files shelf.old ≡ e.files → e.most ≡ most
+    ensures stops { (e : RunStart) → H.files shelf.old ≡ e.files → e.most ≡ most
         → Told H.tells e [] (O.written output.old) (H.fault_count shelf.old) (D.fault_count disk.old)
         (E.stays engine.old disk.old (base_of e.from))
-        → Stops H.tells e (H.fault_count shelf.new) (D.fault_count disk.new) (I.left input.old) (I.left input.new)
+        → StopsScript H.tells e (H.fault_count shelf.new) (D.fault_count disk.new) (I.left input.old) (I.left input.new)
         (O.written output.new) (E.stays engine.new disk.new (base_of e.from)) result }
     ensures input_later { I.fault_count input.old ≤ I.fault_count input.new }
     ensures input_failed { result ≡ Status.InputFault → Rose (I.fault_count input.old) (I.fault_count input.new) }

@@ -7,13 +7,13 @@ ghost use Rattle.cdb_model.specs.Grammar.{sentence_in};
 ghost use Rattle.cdb_model.specs.Images.{Base};
 ghost use Rattle.cdb_model.specs.Runs.{Item, TurnIn, due};
 ghost use Rattle.cdb_model.specs.Runs.{line as an_item, late as trail_item};
-ghost use Rattle.cdb_model.specs.Stores.{Which, kind_of};
+ghost use Rattle.cdb_model.specs.Stores.{Which, store_kind};
 ghost use Rattle.cdb_model.specs.Transitions.{StateIn};
 ghost use Rattle.cdb_front.specs.AnswerMeanings.{meant, HasLength};
 ghost use Rattle.cdb_engine.specs.Tracks.{Leads};
 ghost use Rattle.cdb_front.specs.Failures.{FedOnce};
 ghost use Rattle.cdb_front.specs.Hearing.{IsEvent, IsAnswered, SaysAsked};
-ghost use Rattle.cdb_front.specs.RunProgress.{Entry, Holds, base_of, Told, TellsFed, Sofar, SpeaksFed, TakesLine, TakesByte, TakesPiece};
+ghost use Rattle.cdb_front.specs.RunProgress.{RunStart, Holds, base_of, Told, TellsFed, RunSoFar, SpeaksFed, TakesLine, TakesByte, TakesPiece};
 ghost use Rattle.cdb_front.specs.Stepping.{Counts};
 
 use crate::answers::Answer;
@@ -38,9 +38,9 @@ fn answer_line<D: Disk, H: Shelf, E: StoreCalls<D>>(
     line: Line,
 ) -> Answer
     requires answered { IsEvent line }
-    ensures turn { (w : Which) (base : Base) (s : StateIn (kind_of w))
+    ensures turn { (w : Which) (base : Base) (s : StateIn (store_kind w))
         → E.stays engine.old disk.old base w s
-        → Leads (TurnIn (kind_of w) (Holds H.tells (H.files shelf.old)) s (said.said (sentence_in line))
+        → Leads (TurnIn (store_kind w) (Holds H.tells (H.files shelf.old)) s (said.said (sentence_in line))
         (meant result (E.bytes engine.new))) (E.stays engine.new disk.new base w) }
     ensures length { HasLength result (E.bytes engine.new) }
     ensures files { H.files shelf.new ≡ H.files shelf.old }
@@ -67,9 +67,9 @@ fn answer<D: Disk, H: Shelf, E: StoreCalls<D>>(
     asked: Asked,
 ) -> Answer
     requires answered { IsAnswered asked }
-    ensures turn { (w : Which) (base : Base) (s : StateIn (kind_of w)) (command : Command) → SaysAsked asked command
+    ensures turn { (w : Which) (base : Base) (s : StateIn (store_kind w)) (command : Command) → SaysAsked asked command
         → E.stays engine.old disk.old base w s
-        → Leads (TurnIn (kind_of w) (Holds H.tells (H.files shelf.old)) s command (meant result (E.bytes engine.new)))
+        → Leads (TurnIn (store_kind w) (Holds H.tells (H.files shelf.old)) s command (meant result (E.bytes engine.new)))
         (E.stays engine.new disk.new base w) }
     ensures length { HasLength result (E.bytes engine.new) }
     ensures files { H.files shelf.new ≡ H.files shelf.old }
@@ -110,7 +110,7 @@ fn reply<D: Disk, H: Shelf, E: StoreCalls<D>, O: Output>(
     asked: Asked,
 ) -> Fed
     requires answered { IsAnswered asked }
-    ensures spoken { (e : Entry) (command : Command) → SaysAsked asked command → H.files shelf.old ≡ e.files
+    ensures spoken { (e : RunStart) (command : Command) → SaysAsked asked command → H.files shelf.old ≡ e.files
         → SpeaksFed H.tells e.files result (an_item command) (O.written output.old) (O.written output.new)
         (H.fault_count shelf.old) (H.fault_count shelf.new) (D.fault_count disk.old) (D.fault_count disk.new)
         (E.stays engine.old disk.old (base_of e.from))
@@ -137,7 +137,7 @@ fn trail<D: Disk, H: Shelf, E: StoreCalls<D>, O: Output>(
     output: &mut O,
     most: u32,
 ) -> Fed
-    ensures spoken { (e : Entry)
+    ensures spoken { (e : RunStart)
         → SpeaksFed H.tells e.files result (trail_item most) (O.written output.old) (O.written output.new)
         (H.fault_count shelf.now) (H.fault_count shelf.now) (D.fault_count disk.old) (D.fault_count disk.new)
         (E.stays engine.old disk.old (base_of e.from))
@@ -167,7 +167,7 @@ fn answer_event<D: Disk, H: Shelf, E: StoreCalls<D>, O: Output>(
     asked: Asked,
 ) -> Fed
     requires answered { IsAnswered asked }
-    ensures told { (e : Entry) (items : List Item) (command : Command) → SaysAsked asked command
+    ensures told { (e : RunStart) (items : List Item) (command : Command) → SaysAsked asked command
         → H.files shelf.old ≡ e.files → e.most ≡ most
         → Told H.tells e items (O.written output.old) (H.fault_count shelf.old) (D.fault_count disk.old)
         (E.stays engine.old disk.old (base_of e.from))
@@ -199,8 +199,8 @@ pub fn take_line<D: Disk, H: Shelf, E: StoreCalls<D>, O: Output>(
     output: &mut O,
     most: u32,
 ) -> Fed
-    ensures line { (e : Entry) (read : List ℕ) → H.files shelf.old ≡ e.files → e.most ≡ most
-        → Sofar H.tells e read (O.written output.old) (H.fault_count shelf.old) (D.fault_count disk.old)
+    ensures line { (e : RunStart) (read : List ℕ) → H.files shelf.old ≡ e.files → e.most ≡ most
+        → RunSoFar H.tells e read (O.written output.old) (H.fault_count shelf.old) (D.fault_count disk.old)
         (E.stays engine.old disk.old (base_of e.from)) maker.now
         → TakesLine H.tells e result read (O.written output.new) (H.fault_count shelf.new) (D.fault_count disk.new)
         (E.stays engine.new disk.new (base_of e.from)) }
@@ -229,8 +229,8 @@ fn take_byte<D: Disk, H: Shelf, E: StoreCalls<D>, O: Output>(
     most: u32,
     byte: u8,
 ) -> Fed
-    ensures byte { (e : Entry) (read : List ℕ) → H.files shelf.old ≡ e.files → e.most ≡ most
-        → Sofar H.tells e read (O.written output.old) (H.fault_count shelf.old) (D.fault_count disk.old)
+    ensures byte { (e : RunStart) (read : List ℕ) → H.files shelf.old ≡ e.files → e.most ≡ most
+        → RunSoFar H.tells e read (O.written output.old) (H.fault_count shelf.old) (D.fault_count disk.old)
         (E.stays engine.old disk.old (base_of e.from)) maker.old
         → TakesByte H.tells e result read byte (O.written output.new) (H.fault_count shelf.new)
         (D.fault_count disk.new)
@@ -268,8 +268,8 @@ pub fn take_piece<D: Disk, H: Shelf, E: StoreCalls<D>, O: Output>(
     most: u32,
     piece: &[u8],
 ) -> Fed
-    ensures piece { (e : Entry) (read : List ℕ) → H.files shelf.old ≡ e.files → e.most ≡ most
-        → Sofar H.tells e read (O.written output.old) (H.fault_count shelf.old) (D.fault_count disk.old)
+    ensures piece { (e : RunStart) (read : List ℕ) → H.files shelf.old ≡ e.files → e.most ≡ most
+        → RunSoFar H.tells e read (O.written output.old) (H.fault_count shelf.old) (D.fault_count disk.old)
         (E.stays engine.old disk.old (base_of e.from)) maker.old
         → TakesPiece H.tells e result read piece.now (O.written output.new) (H.fault_count shelf.new)
         (D.fault_count disk.new)

@@ -5,8 +5,8 @@ ghost use Rattle.cdb_model.specs.Grammar.{InlineSource, FileSource, inline_in, f
 ghost use Rattle.cdb_model.specs.ImageFiles.{HasImage};
 ghost use Rattle.cdb_model.specs.Maps.{Content};
 ghost use Rattle.cdb_model.specs.Spelled.{SpellsSource, SpellsLoaded};
-ghost use Rattle.cdb_model.specs.Stores.{Which, kind_of};
-ghost use Rattle.cdb_model.specs.Transitions.{StateIn, IsReadyIn, GivesIn, LoadsIn};
+ghost use Rattle.cdb_model.specs.Stores.{Which, store_kind};
+ghost use Rattle.cdb_model.specs.Transitions.{StateIn, IsReadyIn, InlineLineIn, SourceLineIn};
 ghost use Rattle.cdb_engine.specs.Stays.{Shows, ChangesAlike};
 ghost use Rattle.cdb_engine.specs.Tracks.{Leads};
 ghost use Rattle.cdb_front.specs.AnswerMeanings.{meant, IsOrdinary, IsOfShelf};
@@ -26,13 +26,13 @@ fn submit(engine: &mut Engine, source: Source) -> Answer
     requires running { engine.old.halted ≡ None }
     requires idle { engine.old.work ≡ None }
     requires room { length engine.old.pending < 64 }
-    ensures gives { (w : Which) (s : StateIn (kind_of w)) (words : InlineSource) → Shows engine.old w s
-        → IsReadyIn (kind_of w) s → SpellsSource words source
-        → Leads (GivesIn (kind_of w) s words (meant result engine.new.reply))
+    ensures gives { (w : Which) (s : StateIn (store_kind w)) (words : InlineSource) → Shows engine.old w s
+        → IsReadyIn (store_kind w) s → SpellsSource words source
+        → Leads (InlineLineIn (store_kind w) s words (meant result engine.new.reply))
         (ChangesAlike engine.old engine.new w s) }
-    ensures loads { (w : Which) (s : StateIn (kind_of w)) (words : FileSource) (content : Content) (bytes : List ℕ)
-        → Shows engine.old w s → IsReadyIn (kind_of w) s → HasImage content bytes → SpellsLoaded words bytes source
-        → Leads (LoadsIn (kind_of w) s words content (meant result engine.new.reply))
+    ensures loads { (w : Which) (s : StateIn (store_kind w)) (words : FileSource) (content : Content) (bytes : List ℕ)
+        → Shows engine.old w s → IsReadyIn (store_kind w) s → HasImage content bytes → SpellsLoaded words bytes source
+        → Leads (SourceLineIn (store_kind w) s words content (meant result engine.new.reply))
         (ChangesAlike engine.old engine.new w s) }
     ensures ordinary { IsOrdinary result }
 {
@@ -41,8 +41,8 @@ fn submit(engine: &mut Engine, source: Source) -> Answer
 
 /// Gives a source whose posts stand in the line.
 pub fn give(alloc: Global, engine: &mut Engine, words: &InlineWords) -> Answer
-    ensures gives { (w : Which) (s : StateIn (kind_of w)) → Shows engine.old w s
-        → Leads (GivesIn (kind_of w) s (inline_in words.now) (meant result engine.new.reply))
+    ensures gives { (w : Which) (s : StateIn (store_kind w)) → Shows engine.old w s
+        → Leads (InlineLineIn (store_kind w) s (inline_in words.now) (meant result engine.new.reply))
         (ChangesAlike engine.old engine.new w s) }
     ensures ordinary { IsOrdinary result }
 {
@@ -62,8 +62,8 @@ pub fn load<H: Shelf>(
     shelf: &mut H,
     words: &LoadWords,
 ) -> Answer
-    ensures loads { (w : Which) (s : StateIn (kind_of w)) → Shows engine.old w s
-        → Leads (LoadsFrom (kind_of w) H.tells (H.files shelf.old) s (file_in words.now)
+    ensures loads { (w : Which) (s : StateIn (store_kind w)) → Shows engine.old w s
+        → Leads (LoadsFrom (store_kind w) H.tells (H.files shelf.old) s (file_in words.now)
         (meant result engine.new.reply))
         (ChangesAlike engine.old engine.new w s) }
     ensures ordinary { IsOfShelf result }

@@ -4,8 +4,8 @@ ghost use Rattle.std.specs.Prelude.{◌≡◌, ◌≤◌, ℕ, List, ◌∷◌, 
 ghost use Rattle.cdb_model.specs.AnswerTexts.{disk_fault};
 ghost use Rattle.cdb_model.specs.Images.{Base};
 ghost use Rattle.cdb_model.specs.Runs.{behind};
-ghost use Rattle.cdb_model.specs.Stores.{Which, kind_of};
-ghost use Rattle.cdb_model.specs.Transitions.{StateIn, MakesIn, HastensIn, CompletesIn};
+ghost use Rattle.cdb_model.specs.Stores.{Which, store_kind};
+ghost use Rattle.cdb_model.specs.Transitions.{StateIn, MakesIn, StepLineIn, StepAllLineIn};
 ghost use Rattle.cdb_front.specs.AnswerMeanings.{meant, said_late, IsBare, IsQuiet};
 ghost use Rattle.cdb_engine.specs.Tracks.{Leads};
 ghost use Rattle.cdb_engine.specs.StoreAnswers.{AdvanceCause};
@@ -37,8 +37,8 @@ fn after_step(outcome: Result<Progress, AdvanceError>) -> Option<Answer>
 /// Makes so many steps, or as many as are left, and answers what the last one that was made says: that
 /// the publication goes on where none says otherwise.
 pub fn make_steps<D: Disk, E: StoreCalls<D>>(engine: &mut E, disk: &mut D, most: u32) -> Answer
-    ensures makes { (w : Which) (base : Base) (s : StateIn (kind_of w)) → E.stays engine.old disk.old base w s
-        → Leads (MakesIn (kind_of w) most s (meant result (E.bytes engine.new))) (E.stays engine.new disk.new base w) }
+    ensures makes { (w : Which) (base : Base) (s : StateIn (store_kind w)) → E.stays engine.old disk.old base w s
+        → Leads (MakesIn (store_kind w) most s (meant result (E.bytes engine.new))) (E.stays engine.new disk.new base w) }
     ensures reply { E.bytes engine.new ≡ E.bytes engine.old }
     ensures bare { IsBare result }
     ensures quiet { IsQuiet result }
@@ -57,8 +57,8 @@ pub fn make_steps<D: Disk, E: StoreCalls<D>>(engine: &mut E, disk: &mut D, most:
 
 /// Answers a line that asks for so many steps.
 pub fn hasten<D: Disk, E: StoreCalls<D>>(engine: &mut E, disk: &mut D, most: u32) -> Answer
-    ensures hastens { (w : Which) (base : Base) (s : StateIn (kind_of w)) → E.stays engine.old disk.old base w s
-        → Leads (HastensIn (kind_of w) s most (meant result (E.bytes engine.new)))
+    ensures hastens { (w : Which) (base : Base) (s : StateIn (store_kind w)) → E.stays engine.old disk.old base w s
+        → Leads (StepLineIn (store_kind w) s most (meant result (E.bytes engine.new)))
         (E.stays engine.new disk.new base w) }
     ensures bare { IsBare result }
     ensures quiet { IsQuiet result }
@@ -80,8 +80,8 @@ pub fn hasten<D: Disk, E: StoreCalls<D>>(engine: &mut E, disk: &mut D, most: u32
 
 /// Answers a line that asks for all steps that are left.
 pub fn complete<D: Disk, E: StoreCalls<D>>(engine: &mut E, disk: &mut D) -> Answer
-    ensures completes { (w : Which) (base : Base) (s : StateIn (kind_of w)) → E.stays engine.old disk.old base w s
-        → Leads (CompletesIn (kind_of w) s (meant result (E.bytes engine.new))) (E.stays engine.new disk.new base w) }
+    ensures completes { (w : Which) (base : Base) (s : StateIn (store_kind w)) → E.stays engine.old disk.old base w s
+        → Leads (StepAllLineIn (store_kind w) s (meant result (E.bytes engine.new))) (E.stays engine.new disk.new base w) }
     ensures bare { IsBare result }
     ensures quiet { IsQuiet result }
     ensures later { D.fault_count disk.old ≤ D.fault_count disk.new }

@@ -5,7 +5,7 @@ ghost use Rattle.cdb_model.specs.Commands as said;
 ghost use Rattle.cdb_model.specs.Grammar.{sentence_in};
 ghost use Rattle.cdb_model.specs.Images.{Base};
 ghost use Rattle.cdb_model.specs.Runs.{TurnIn};
-ghost use Rattle.cdb_model.specs.Stores.{Which, kind_of};
+ghost use Rattle.cdb_model.specs.Stores.{Which, store_kind};
 ghost use Rattle.cdb_model.specs.Transitions.{StateIn};
 ghost use Rattle.cdb_engine.specs.StoreAnswers.{TriesIn, LeftIn, advance_answer, AdvanceCause};
 ghost use Rattle.cdb_engine.specs.Tracks.{Leads};
@@ -24,7 +24,7 @@ use std::alloc::Global;
 pub trait StoreCalls<D: Disk>: Drop {
     /// With this disk it stays with a state since a run began with a store; or, whatever the disk
     /// holds, with a state of any store.
-    ghost stays: { Self → D → Base → (w : Which) → StateIn (kind_of w) → Type 0 };
+    ghost stays: { Self → D → Base → (w : Which) → StateIn (store_kind w) → Type 0 };
 
     /// The bytes of the last tile that was asked for.
     ghost bytes: { Self → List ℕ };
@@ -35,23 +35,23 @@ pub trait StoreCalls<D: Disk>: Drop {
 
     /// A publication was given up.
     fn halted(&self) -> bool
-        ensures { (d : D) (w : Which) (base : Base) (s : StateIn (kind_of w)) → stays self.now d base w s
+        ensures { (d : D) (w : Which) (base : Base) (s : StateIn (store_kind w)) → stays self.now d base w s
             → result ≡ is_some s.halted };
 
     /// A publication is going.
     fn going(&self) -> bool
-        ensures { (d : D) (w : Which) (base : Base) (s : StateIn (kind_of w)) → stays self.now d base w s
+        ensures { (d : D) (w : Which) (base : Base) (s : StateIn (store_kind w)) → stays self.now d base w s
             → result ≡ is_some s.going };
 
     /// How many steps are left of the publication that is going.
     fn left(&self) -> u32
-        ensures { (d : D) (w : Which) (base : Base) (s : StateIn (kind_of w)) → stays self.now d base w s
-            → LeftIn (kind_of w) s.going result };
+        ensures { (d : D) (w : Which) (base : Base) (s : StateIn (store_kind w)) → stays self.now d base w s
+            → LeftIn (store_kind w) s.going result };
 
     /// Makes one step of the publication that is going.
     fn step(&mut self, disk: &mut D) -> Result<Progress, AdvanceError>
-        ensures step { (w : Which) (base : Base) (s : StateIn (kind_of w)) → stays self.old disk.old base w s
-            → Leads (TriesIn (kind_of w) s (advance_answer result)) (stays self.new disk.new base w) }
+        ensures step { (w : Which) (base : Base) (s : StateIn (store_kind w)) → stays self.old disk.old base w s
+            → Leads (TriesIn (store_kind w) s (advance_answer result)) (stays self.new disk.new base w) }
         ensures reply { bytes self.new ≡ bytes self.old }
         ensures later { D.fault_count disk.old ≤ D.fault_count disk.new }
         ensures cause { AdvanceCause result (D.fault_count disk.old) (D.fault_count disk.new) };
@@ -59,8 +59,8 @@ pub trait StoreCalls<D: Disk>: Drop {
     /// Answers a line that asks for no steps.
     fn other<H: Shelf>(&mut self, alloc: Global, disk: &mut D, shelf: &mut H, line: Line) -> Answer
         requires answered { IsStepless line }
-        ensures turn { (w : Which) (base : Base) (s : StateIn (kind_of w)) → stays self.old disk.old base w s
-            → Leads (TurnIn (kind_of w) (Holds H.tells (H.files shelf.old)) s (said.said (sentence_in line))
+        ensures turn { (w : Which) (base : Base) (s : StateIn (store_kind w)) → stays self.old disk.old base w s
+            → Leads (TurnIn (store_kind w) (Holds H.tells (H.files shelf.old)) s (said.said (sentence_in line))
             (meant result (bytes self.new)))
             (stays self.new disk.new base w) }
         ensures length { HasLength result (bytes self.new) }

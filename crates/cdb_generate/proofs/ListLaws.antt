@@ -6,7 +6,7 @@ use Rattle.cdb_grid.specs.declared.tile.Tile.{Tile}
 use Rattle.cdb_model.specs.Publications.{Publication, sources_in, sources_of, Touches, IsEntryCount}
 use Rattle.cdb_generate.specs.Generator.{PublicationDrawn, AreDrawn, state_next, passed}
 use Rattle.cdb_generate.specs.Sums.{tiles_sum, IsSum}
-use Rattle.cdb_generate.specs.Generated.{Sofar}
+use Rattle.cdb_generate.specs.Generated.{GeneratedSoFar}
 use Rattle.cdb_generate.specs.Laws.{DrawnInOrder}
 
 -- the next one is drawn from the state after all before it
@@ -66,7 +66,7 @@ sum_more earlier (y ∷ ys) p tiles sum is touched =
     joined sum a b c e = omega (arith, ints, e)
 
 -- before the first
-sofar_none : (from : List Publication) (start : ℕ) → Sofar from start start 0 0 (pos 0) from
+sofar_none : (from : List Publication) (start : ℕ) → GeneratedSoFar from start start 0 0 (pos 0) from
 sofar_none from start = record {
   made = [];
   list_is = sym (append-nil from);
@@ -80,8 +80,8 @@ sofar_none from start = record {
 -- with one more, once it is complete
 sofar_more : (from : List Publication) (start state done files : ℕ) (sum : ℤ) (list : List Publication)
     (p : Publication) (tiles : List Tile)
-    → Sofar from start state done files sum list → PublicationDrawn state (sources_in p) → Touches p tiles
-    → Sofar from start (state_next state) (done + 1) (files + length tiles) (sum +ℤ tiles_sum (sources_of
+    → GeneratedSoFar from start state done files sum list → PublicationDrawn state (sources_in p) → Touches p tiles
+    → GeneratedSoFar from start (state_next state) (done + 1) (files + length tiles) (sum +ℤ tiles_sum (sources_of
     (list ++ p ∷ [])) tiles) (list ++ p ∷ [])
 sofar_more from start state done files sum list p tiles s one touched =
     let number : suc done ≡ done + 1 = omega arith in

@@ -14,20 +14,20 @@ use Rattle.cdb_grid.specs.declared.family.Family.TheVariants.{Elev, Low, High, M
 use Rattle.cdb_grid.specs.declared.tile.Tile.{Tile}
 use Rattle.cdb_grid.proofs.UnitLaws.{width-pos, extent-pos}
 use Rattle.cdb_grid.proofs.TileLaws.{tile_height-most}
-use Rattle.cdb_source.specs.Head.{size_of, span}
+use Rattle.cdb_source.specs.Head.{magnitude, span}
 use Rattle.cdb_source.specs.Sample.{corner_of, box_height, box_width, IsBefore}
 use Rattle.cdb_source.specs.Reached.{source_height, Reaches, IsReachCount, IsLoad}
 use Rattle.cdb_source.specs.declared.kind.Kind.{Kind}
 use Rattle.cdb_source.specs.declared.kind.Kind.TheVariants.{Elevation, Material}
 use Rattle.cdb_source.specs.declared.head.SourceHead.{SourceHead}
 use Rattle.cdb_source.specs.declared.source.Source.{Source}
-use Rattle.cdb_touch.specs.Axis.{HasPlace, inset_of}
+use Rattle.cdb_touch.specs.Axis.{HasPlaceOnAxis, inset_of}
 use Rattle.cdb_touch.specs.Numbers.{tile_width, row_number, column_number, IsNumbered}
 use Rattle.cdb_touch.proofs.NumberLaws.{wide-extent}
 use Rattle.cdb_touch.proofs.ReachLaws.{reaches_to}
 use Rattle.cdb_touch.proofs.TileNumbers.{numbered_row, numbered-only}
 use Rattle.cdb_model.specs.Publications.{heads_of}
-use Rattle.cdb_generate.specs.Generator.{after, drawn, HeadDrawn, SourcesDrawn}
+use Rattle.cdb_generate.specs.Generator.{state_after_draws, drawn, HeadDrawn, SourcesDrawn}
 use Rattle.cdb_generate.specs.Laws.{DrawnFits}
 use Rattle.cdb_generate.proofs.BoxLaws.{height_low}
 use Rattle.cdb_generate.proofs.FewTiles.{few}
@@ -45,7 +45,7 @@ height_high : (level : ℤ) (n : ℕ) → n < 8 → level +ℤ pos 6 ≡ pos n �
 height_high (pos l) n small e = omega (arith, ints, e)
 height_high (negsuc l) n small e = omega arith
 
-span_most : (kind : Kind) (r s : ℕ) → r ≤ 64 → span kind r (size_of (pos s)) ≤ 64 * s
+span_most : (kind : Kind) (r s : ℕ) → r ≤ 64 → span kind r (magnitude (pos s)) ≤ 64 * s
 span_most Elevation r s few =
     let m : (r - 1) * s ≤ 64 * s = mul-le-mul_right s (omega arith) in
     let goal : (r - 1) * (s + 0) ≤ 64 * s = omega arith in goal
@@ -65,9 +65,9 @@ small_head x head d =
     record {
       low = height_low head.level.number (drawn 2 x % 8) (below_8 (drawn 2 x)) d.level;
       high = height_high head.level.number (drawn 2 x % 8) (below_8 (drawn 2 x)) d.level;
-      rows = subst (λ (z : ℤ). span head.kind head.rows (size_of z) ≤ 64 * s) (sym d.dlat)
+      rows = subst (λ (z : ℤ). span head.kind head.rows (magnitude z) ≤ 64 * s) (sym d.dlat)
           (span_most head.kind head.rows s (most_64 (drawn 5 x) head.rows d.rows));
-      cols = subst (λ (z : ℤ). span head.kind head.cols (size_of z) ≤ 64 * s) (sym d.dlon)
+      cols = subst (λ (z : ℤ). span head.kind head.cols (magnitude z) ≤ 64 * s) (sym d.dlon)
           (span_most head.kind head.cols s (most_64 (drawn 6 x) head.cols d.cols));
     }
 
@@ -95,7 +95,7 @@ not_past Elevation x edge b = b
 not_past Material x edge b = omega arith
 
 five_of : (kind : Kind) (s near reach extent n : ℕ) → 1 ≤ extent → reach ≤ 4 * extent
-    → HasPlace kind s near (near + reach) extent n
+    → HasPlaceOnAxis kind s near (near + reach) extent n
     → (near / extent ≤ n) × (n < near / extent + 5)
 five_of kind s near reach extent n p small h =
     five near (h.corner + inset_of kind s) extent n reach p h.from_low h.below_high h.from_near (not_past kind _
@@ -262,7 +262,7 @@ load_most : (x : ℕ) (ss : List Source) (load : ℕ) → SourcesDrawn x ss → 
 load_most x [] load drawn is = let e : load ≡ 0 = is in omega arith
 load_most x (s ∷ ss) load drawn is =
     let one : is.0 ≤ 1200 = reach_most s.head is.0 (small_head x s.head drawn.0.head) is.2.0 in
-    let rest : is.1 ≤ 1200 * length ss = load_most (after 7 x) ss is.1 drawn.1 is.2.1 in
+    let rest : is.1 ≤ 1200 * length ss = load_most (state_after_draws 7 x) ss is.1 drawn.1 is.2.1 in
     let e : load ≡ is.0 + is.1 = is.2.2 in
     let all : load ≤ 1200 * suc (length ss) = omega arith in all
 

@@ -14,7 +14,7 @@ use Rattle.std.proofs.lemmas.List.Elements.{All-append, All-push, All-nil}
 use Rattle.std.proofs.lemmas.List.FromFn.{length-map-range_with_len}
 use Rattle.cdb_source.specs.Posts.{IsPost}
 use Rattle.cdb_source.specs.declared.source.Source.{Source}
-use Rattle.cdb_generate.specs.Generator.{state_after, after, post_drawn, row_drawn, posts_drawn, SourceDrawn, SourcesDrawn}
+use Rattle.cdb_generate.specs.Generator.{state_after, state_after_draws, post_drawn, row_drawn, posts_drawn, SourceDrawn, SourcesDrawn}
 
 range_more : (a n : ℕ) → range_with_len a (suc n) ≡ range_with_len a n ++ (a + n) ∷ []
 range_more a zero = let e : a ≡ a + 0 = omega arith in ap (λ k. k ∷ []) e
@@ -46,21 +46,21 @@ more_rows kind base rows cols =
     ∙ ap (λ n. flat_map f (range_with_len 0 n)) number
 
 -- draws after draws
-pub after_add : (m n x : ℕ) → after n (after m x) ≡ after (m + n) x
-after_add zero n x = let e : n ≡ 0 + n = omega arith in ap (λ k. after k x) e
+pub after_add : (m n x : ℕ) → state_after_draws n (state_after_draws m x) ≡ state_after_draws (m + n) x
+after_add zero n x = let e : n ≡ 0 + n = omega arith in ap (λ k. state_after_draws k x) e
 after_add (suc m) n x = let e : suc (m + n) ≡ suc m + n = omega arith in after_add m n (state_after x)
-    ∙ ap (λ k. after k x) e
+    ∙ ap (λ k. state_after_draws k x) e
 
 pub sources_more : (x : ℕ) (ss : List Source) (s : Source) (n : ℕ) → n ≡ 7 * length ss → SourcesDrawn x ss
-    → SourceDrawn (after n x) s → SourcesDrawn x (ss ++ s ∷ [])
+    → SourceDrawn (state_after_draws n x) s → SourcesDrawn x (ss ++ s ∷ [])
 sources_more x [] s n is drawn one = let e : n ≡ 0 = (let h : n ≡ 7 * 0 =
-    is in omega arith) in (subst (λ k. SourceDrawn (after k x) s) e one, tt)
+    is in omega arith) in (subst (λ k. SourceDrawn (state_after_draws k x) s) e one, tt)
 sources_more x (y ∷ ys) s n is drawn one =
     let h : n ≡ 7 * suc (length ys) = is in
     let e : n ≡ 7 + 7 * length ys = omega (arith, h) in
-    let moved : SourceDrawn (after (7 * length ys) (after 7 x)) s =
-    subst (λ k. SourceDrawn k s) (ap (λ k. after k x) e ∙ sym (after_add 7 (7 * length ys) x)) one in
-    (drawn.0, sources_more (after 7 x) ys s (7 * length ys) refl drawn.1 moved)
+    let moved : SourceDrawn (state_after_draws (7 * length ys) (state_after_draws 7 x)) s =
+    subst (λ k. SourceDrawn k s) (ap (λ k. state_after_draws k x) e ∙ sym (after_add 7 (7 * length ys) x)) one in
+    (drawn.0, sources_more (state_after_draws 7 x) ys s (7 * length ys) refl drawn.1 moved)
 
 -- the posts are as many as there are places, and numbers that the kind allows
 rows_next : (kind : Kind) (base rows cols : ℕ)

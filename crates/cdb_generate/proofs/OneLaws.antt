@@ -9,9 +9,9 @@ use Rattle.cdb_source.proofs.HeadLaws.{same_head}
 use Rattle.cdb_model.specs.Text.{Text}
 use Rattle.cdb_model.specs.Publications.{Publication, sources_in, sources_of, heads_of, IsEntryCount}
 use Rattle.cdb_model.proofs.OneLists.{one_touched, one_entries}
-use Rattle.cdb_generate.specs.Generator.{after, drawn, posts_drawn, HeadDrawn, SourceDrawn, SourcesDrawn, PublicationDrawn, AreDrawn, state_after, state_next}
+use Rattle.cdb_generate.specs.Generator.{state_after_draws, drawn, posts_drawn, HeadDrawn, SourceDrawn, SourcesDrawn, PublicationDrawn, AreDrawn, state_after, state_next}
 use Rattle.cdb_generate.specs.Sums.{tiles_sum, IsSum}
-use Rattle.cdb_generate.specs.Generated.{Tells, summary_text}
+use Rattle.cdb_generate.specs.Generated.{TellsLines, summary_text}
 use Rattle.cdb_generate.specs.Laws.{OneSummary}
 
 same_sum : (a b : ℤ) (n : ℕ) → a +ℤ pos 6 ≡ pos n → b +ℤ pos 6 ≡ pos n → a ≡ b
@@ -40,7 +40,7 @@ one_list x (s ∷ ss) [] same d e = let z : suc (length ss) ≡ 0 = same in absu
 one_list x (s ∷ ss) (t ∷ ts) same d e =
     let z : suc (length ss) ≡ suc (length ts) = same in
     let first = one_source x s t d.0 e.0 in
-    let rest = one_list (after 7 x) ss ts (omega arith) d.1 e.1 in
+    let rest = one_list (state_after_draws 7 x) ss ts (omega arith) d.1 e.1 in
     (λ i. first i ∷ rest i)
 
 one_publication : (x : ℕ) (a b : List Source) → PublicationDrawn x a → PublicationDrawn x b → a ≡ b
@@ -64,8 +64,8 @@ one_sum earlier (p ∷ list) m n a b =
     a.2.2 ∙ (λ i. tiles_sum (sources_of (earlier ++ p ∷ [])) (tiles i) +ℤ rest i) ∙ sym b.2.2
 
 one_text : (from : List Publication) (start count : ℕ) (a b : List Publication) (wrote wrote' : Text)
-    → length a ≡ count → length b ≡ count → AreDrawn start a → AreDrawn start b → Tells from a count wrote
-    → Tells from b count wrote' → wrote ≡ wrote'
+    → length a ≡ count → length b ≡ count → AreDrawn start a → AreDrawn start b → TellsLines from a count wrote
+    → TellsLines from b count wrote' → wrote ≡ wrote'
 one_text from start count a b wrote wrote' m n d e s t =
     let list : a ≡ b = one_drawn start a b (m ∙ sym n) d e in
     let files : s.files ≡ t.files =

@@ -34,7 +34,7 @@ pub record Generates (base : Base) (start count : ℕ) (Since : FileMap → Type
   pub since : (m : FileMap) → Since m → StandsSince base made m
 
 -- the lines for so many publications after a list: the newest version, the files and the sum
-pub record Tells (from made : List Publication) (count : ℕ) (wrote : Text) : Type 0 where
+pub record TellsLines (from made : List Publication) (count : ℕ) (wrote : Text) : Type 0 where
   pub files : ℕ
   pub files_are : IsEntryCount made files
   pub sum : ℤ
@@ -45,10 +45,10 @@ pub record Tells (from made : List Publication) (count : ℕ) (wrote : Text) : T
 pub record Summary (from made : List Publication) (count : ℕ) (Left : FileMap → Type 0) (wrote : Text) : Type 0 where
   pub all : length made ≡ count
   pub at_exit : (m : FileMap) → Left m → Stands m (from ++ made)
-  pub tells : Tells from made count wrote
+  pub tells : TellsLines from made count wrote
 
 -- between two publications: so many are made and complete, with their files and their sum
-pub record Sofar (from : List Publication) (start state done files : ℕ) (sum : ℤ)
+pub record GeneratedSoFar (from : List Publication) (start state done files : ℕ) (sum : ℤ)
     (list : List Publication) : Type 0 where
   pub made : List Publication
   pub list_is : list ≡ from ++ made

@@ -14,13 +14,13 @@ use Rattle.cdb_model.specs.Publications.{Publication, sources_in}
 abbrev pub state_after : ℕ → ℕ
 state_after x = (6364136223846793005 * x + 1442695040888963407) % 2 ^ 64
 
-abbrev pub after : ℕ → ℕ → ℕ
-after zero x = x
-after (suc n) x = after n (state_after x)
+abbrev pub state_after_draws : ℕ → ℕ → ℕ
+state_after_draws zero x = x
+state_after_draws (suc n) x = state_after_draws n (state_after x)
 
 -- the draw of a number, the first one being number 1: the state after it without its last 32 bits
 abbrev pub drawn : ℕ → ℕ → ℕ
-drawn n x = after n x / 2 ^ 32
+drawn n x = state_after_draws n x / 2 ^ 32
 
 -- ---- a source, of seven draws
 
@@ -62,7 +62,7 @@ count_drawn x = 1 + drawn 1 x % 3
 -- sources one after another, seven draws each
 abbrev pub SourcesDrawn : ℕ → List Source → Type 0
 SourcesDrawn x [] = Unit {0}
-SourcesDrawn x (s ∷ sources) = SourceDrawn x s × SourcesDrawn (after 7 x) sources
+SourcesDrawn x (s ∷ sources) = SourceDrawn x s × SourcesDrawn (state_after_draws 7 x) sources
 
 -- the sources of a publication: how many they are is drawn first, and then each of them
 pub record PublicationDrawn (x : ℕ) (sources : List Source) : Type 0 where
@@ -71,7 +71,7 @@ pub record PublicationDrawn (x : ℕ) (sources : List Source) : Type 0 where
 
 -- the state after a publication
 abbrev pub state_next : ℕ → ℕ
-state_next x = after (1 + 7 * count_drawn x) x
+state_next x = state_after_draws (1 + 7 * count_drawn x) x
 
 -- publications one after another, from a start
 abbrev pub AreDrawn : ℕ → List Publication → Type 0

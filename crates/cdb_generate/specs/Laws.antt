@@ -7,7 +7,7 @@ use Rattle.cdb_model.specs.Text.{Text}
 use Rattle.cdb_model.specs.Publications.{Publication, sources_in, sources_of, heads_of, Touches}
 use Rattle.cdb_generate.specs.Generator.{drawn, count_drawn, PublicationDrawn, AreDrawn, state_next}
 use Rattle.cdb_generate.specs.Sums.{tile_sum, tiles_sum}
-use Rattle.cdb_generate.specs.Generated.{Sofar, Tells}
+use Rattle.cdb_generate.specs.Generated.{GeneratedSoFar, TellsLines}
 
 -- from the start 1 the first draw is this number, so that the first publication has two sources
 pub record FromOne : Type 0 where
@@ -24,11 +24,11 @@ pub record DrawnFits : Type 0 where
 -- the first of publications that are drawn are drawn, and one more may be drawn from the state after them
 pub record DrawnInOrder : Type 0 where
   pub first : (start : ℕ) (first later : List Publication) → AreDrawn start (first ++ later) → AreDrawn start first
-  pub begins : (from : List Publication) (start : ℕ) → Sofar from start start 0 0 (pos 0) from
+  pub begins : (from : List Publication) (start : ℕ) → GeneratedSoFar from start start 0 0 (pos 0) from
   pub more : (from : List Publication) (start state done files : ℕ) (sum : ℤ) (list : List Publication)
       (p : Publication) (tiles : List Tile)
-      → Sofar from start state done files sum list → PublicationDrawn state (sources_in p) → Touches p tiles
-      → Sofar from start (state_next state) (done + 1) (files + length tiles)
+      → GeneratedSoFar from start state done files sum list → PublicationDrawn state (sources_in p) → Touches p tiles
+      → GeneratedSoFar from start (state_next state) (done + 1) (files + length tiles)
       (sum +ℤ tiles_sum (sources_of (list ++ p ∷ [])) tiles) (list ++ p ∷ [])
 
 -- the sum of tiles, tile by tile
@@ -42,4 +42,4 @@ pub record OneSummary : Type 0 where
   pub list : (start : ℕ) (a b : List Publication) → length a ≡ length b → AreDrawn start a → AreDrawn start b → a ≡ b
   pub text : (from : List Publication) (start count : ℕ) (a b : List Publication) (wrote wrote' : Text)
       → length a ≡ count → length b ≡ count → AreDrawn start a → AreDrawn start b
-      → Tells from a count wrote → Tells from b count wrote' → wrote ≡ wrote'
+      → TellsLines from a count wrote → TellsLines from b count wrote' → wrote ≡ wrote'

@@ -1,7 +1,7 @@
 //! The head of a source that is drawn.
 ghost use Rattle.std.specs.Prelude.{◌≡◌, ◌+◌, ◌*◌, ◌%◌, ◌≤◌, pos, ◌+ℤ◌};
 ghost use Rattle.cdb_grid.specs.Units.{degree, height_of, step};
-ghost use Rattle.cdb_generate.specs.Generator.{after, kind_drawn, HeadDrawn};
+ghost use Rattle.cdb_generate.specs.Generator.{state_after_draws, kind_drawn, HeadDrawn};
 
 use crate::draws::draw;
 use cdb_grid::units::{height, step};
@@ -48,7 +48,7 @@ fn step_of(level: Level) -> Arc
 /// The head of the next source.
 pub(crate) fn draw_head(state: &mut u64) -> SourceHead
     ensures head { HeadDrawn state.old result }
-    ensures state { state.new ≡ after 6 state.old }
+    ensures state { state.new ≡ state_after_draws 6 state.old }
 {
     let kind = kind_of(draw(state));
     let level = level_of(draw(state));

@@ -1,6 +1,6 @@
 //! Sources and publications that are drawn.
 ghost use Rattle.std.specs.Prelude.{◌≡◌, ◌<◌, ◌^◌, OnOk, IfOk};
-ghost use Rattle.cdb_generate.specs.Generator.{after, post_drawn, posts_drawn, SourceDrawn, PublicationDrawn, state_next};
+ghost use Rattle.cdb_generate.specs.Generator.{state_after_draws, post_drawn, posts_drawn, SourceDrawn, PublicationDrawn, state_next};
 
 use crate::draws::draw;
 use crate::heads::draw_head;
@@ -36,7 +36,7 @@ fn posts(alloc: Global, kind: Kind, base: u64, rows: u32, cols: u32) -> Result<V
 /// The next source.
 fn draw_source(alloc: Global, state: &mut u64) -> Result<Source, AllocError>
     ensures source { IfOk result (SourceDrawn state.old) }
-    ensures state { state.new ≡ after 7 state.old }
+    ensures state { state.new ≡ state_after_draws 7 state.old }
 {
     let head = draw_head(state);
     let base = draw(state);

@@ -15,7 +15,7 @@ use Rattle.cdb_grid.proofs.Same.{same_geocell, same_tile}
 use Rattle.cdb_source.specs.Texts.{count_bytes}
 use Rattle.cdb_source.proofs.HeadLaws.{IsBytes, IsBytes-take, IsBytes-drop, cut, count_is, level_again}
 use Rattle.cdb_model.specs.Records.{family_number, entry_text}
-use Rattle.cdb_manifest.specs.Entries.{HasTile}
+use Rattle.cdb_manifest.specs.Entries.{HasTileFields}
 
 same_family : (a b : Family) → family_number a ≡ family_number b → a ≡ b
 same_family Elev Elev e = refl
@@ -36,7 +36,7 @@ same_family Mat High e = absurd (omega arith)
 same_family Mat Mat e = refl
 
 -- the same bytes have one tile
-pub one_tile : (bytes : List ℕ) (a b : Tile) → HasTile bytes a → HasTile bytes b → a ≡ b
+pub one_tile : (bytes : List ℕ) (a b : Tile) → HasTileFields bytes a → HasTileFields bytes b → a ≡ b
 one_tile bytes a b h g =
     same_tile a b (same_family a.family b.family (sym h.family ∙ g.family)) (same_geocell a.cell b.cell (sym h.lat ∙ g.lat) (sym h.lon ∙ g.lon)) (sym h.level ∙ g.level) (sym h.up ∙ g.up) (sym h.right ∙ g.right)
 
@@ -57,7 +57,7 @@ number_fits h n lt =
     let most : 2 ^ (24 - h) ≤ 2 ^ 24 = pow-le-pow_right {n = 2} two le in
     omega arith
 
-written_has : (tile : Tile) → HasTile (entry_text tile) tile
+written_has : (tile : Tile) → HasTileFields (entry_text tile) tile
 unfolding entry_text
 written_has tile =
     let cell = tile.cell in
@@ -74,8 +74,8 @@ written_has tile =
       right = from_be_bytes-to_be_bytes_4 tile.right (number_fits (height_of tile.level.number) tile.right tile.right_in_range);
     }
 
-pub has_tile : (bytes : List ℕ) (tile : Tile) → bytes ≡ entry_text tile → HasTile bytes tile
-has_tile bytes tile e = subst (λ (bs : List ℕ). HasTile bs tile) (sym e) (written_has tile)
+pub has_tile : (bytes : List ℕ) (tile : Tile) → bytes ≡ entry_text tile → HasTileFields bytes tile
+has_tile bytes tile e = subst (λ (bs : List ℕ). HasTileFields bs tile) (sym e) (written_has tile)
 
 pub length-entry_text : (tile : Tile) → length (entry_text tile) ≡ 16
 unfolding entry_text
@@ -97,7 +97,7 @@ lon_are bytes z fits room is =
     let back : cast_unsigned w16 z ≡ from_be_bytes w16 (take 2 (drop 4 bytes)) = ap (cast_unsigned w16) (sym is) ∙ of_z-to_z w16 (from_be_bytes w16 (take 2 (drop 4 bytes))) below in
     be_bytes_2 (take 2 (drop 4 bytes)) (cast_unsigned w16 z) two part_fits back
 
-pub entry_is : (bytes : List ℕ) (tile : Tile) → length bytes ≡ 16 → IsBytes bytes → HasTile bytes tile → bytes ≡ entry_text tile
+pub entry_is : (bytes : List ℕ) (tile : Tile) → length bytes ≡ 16 → IsBytes bytes → HasTileFields bytes tile → bytes ≡ entry_text tile
 unfolding entry_text
 entry_is bytes tile len fits h =
     let level : get_or bytes 1 0 ≡ cast_unsigned w8 tile.level.number = sym (of_z-to_z w8 (get_or bytes 1 0) (fits 1)) ∙ ap (cast_unsigned w8) h.level in
@@ -124,14 +124,14 @@ entry_short bytes short tile after e =
     let whole : length bytes ≡ 16 + length after = ap length e ∙ length-append (entry_text tile) after ∙ ap (λ n. n + length after) (length-entry_text tile) in
     omega arith
 
-pub entry_other : (bytes entry : List ℕ) → entry ≡ take 16 bytes → ((tile : Tile) → HasTile entry tile → ⊥) → (tile : Tile) (after : List ℕ) → bytes ≡ entry_text tile ++ after → ⊥
+pub entry_other : (bytes entry : List ℕ) → entry ≡ take 16 bytes → ((tile : Tile) → HasTileFields entry tile → ⊥) → (tile : Tile) (after : List ℕ) → bytes ≡ entry_text tile ++ after → ⊥
 entry_other bytes entry is never tile after e = never tile (has_tile entry tile (is ∙ ap (take 16) e ∙ take_at (entry_text tile) after 16 (length-entry_text tile)))
 
-pub entry_then : (bytes entry : List ℕ) (tile : Tile) → length entry ≡ 16 → IsBytes entry → entry ≡ take 16 bytes → HasTile entry tile → bytes ≡ entry_text tile ++ drop 16 bytes
+pub entry_then : (bytes entry : List ℕ) (tile : Tile) → length entry ≡ 16 → IsBytes entry → entry ≡ take 16 bytes → HasTileFields entry tile → bytes ≡ entry_text tile ++ drop 16 bytes
 entry_then bytes entry tile len fits is h = sym (take-append-drop 16 bytes) ∙ ap (λ (front : List ℕ). front ++ drop 16 bytes) (sym is ∙ entry_is entry tile len fits h)
 
 -- a row or a column that the level doesn't have
-pub other_up : (entry : List ℕ) (level : Level) (up across : ℕ) → cast_signed w8 (get_or entry 1 0) ≡ level.number → up ≡ from_be_bytes w32 (take 4 (drop 8 entry)) → across ≡ tiles_of (height_of level.number) → across ≤ up → (tile : Tile) → HasTile entry tile → ⊥
+pub other_up : (entry : List ℕ) (level : Level) (up across : ℕ) → cast_signed w8 (get_or entry 1 0) ≡ level.number → up ≡ from_be_bytes w32 (take 4 (drop 8 entry)) → across ≡ tiles_of (height_of level.number) → across ≤ up → (tile : Tile) → HasTileFields entry tile → ⊥
 other_up entry level up across el eu is out tile h =
     let same : level.number ≡ tile.level.number = sym el ∙ h.level in
     let most : across ≡ tiles_of (height_of tile.level.number) = is ∙ ap (λ (z : ℤ). tiles_of (height_of z)) same in
@@ -139,7 +139,7 @@ other_up entry level up across el eu is out tile h =
     let below = tile.up_in_range in
     omega (arith, most, row, below)
 
-pub other_right : (entry : List ℕ) (level : Level) (right across : ℕ) → cast_signed w8 (get_or entry 1 0) ≡ level.number → right ≡ from_be_bytes w32 (take 4 (drop 12 entry)) → across ≡ tiles_of (height_of level.number) → across ≤ right → (tile : Tile) → HasTile entry tile → ⊥
+pub other_right : (entry : List ℕ) (level : Level) (right across : ℕ) → cast_signed w8 (get_or entry 1 0) ≡ level.number → right ≡ from_be_bytes w32 (take 4 (drop 12 entry)) → across ≡ tiles_of (height_of level.number) → across ≤ right → (tile : Tile) → HasTileFields entry tile → ⊥
 other_right entry level right across el er is out tile h =
     let same : level.number ≡ tile.level.number = sym el ∙ h.level in
     let most : across ≡ tiles_of (height_of tile.level.number) = is ∙ ap (λ (z : ℤ). tiles_of (height_of z)) same in

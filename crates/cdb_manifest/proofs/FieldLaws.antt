@@ -19,17 +19,17 @@ unfolding head_text
 length-head_text head = refl
 
 pub head_cancel : (a b : SourceHead) (x y : List ℕ) → head_text a ++ x ≡ head_text b ++ y → (a ≡ b) × (x ≡ y)
-head_cancel a b x y e = same_front a b x y (ap (λ (rest : List ℕ). source_texts.first_bytes ++ rest) e)
+head_cancel a b x y e = same_front a b x y (ap (λ (rest : List ℕ). source_texts.source_first_bytes ++ rest) e)
 
 pub head_short : (bytes : List ℕ) → length bytes < 44 → (head : SourceHead) (after : List ℕ) → bytes ≡ head_text head ++ after → ⊥
 head_short bytes short head after e =
     let whole : length bytes ≡ 44 + length after = ap length e ∙ length-append (head_text head) after ∙ ap (λ n. n + length after) (length-head_text head) in
     omega arith
 
-pub head_other : (bytes text front : List ℕ) → text ≡ take 44 bytes → front ≡ source_texts.first_bytes ++ text → ((head : SourceHead) → front ≡ source_texts.front_text head → ⊥) → (head : SourceHead) (after : List ℕ) → bytes ≡ head_text head ++ after → ⊥
+pub head_other : (bytes text front : List ℕ) → text ≡ take 44 bytes → front ≡ source_texts.source_first_bytes ++ text → ((head : SourceHead) → front ≡ source_texts.source_front_text head → ⊥) → (head : SourceHead) (after : List ℕ) → bytes ≡ head_text head ++ after → ⊥
 head_other bytes text front is made never head after e =
     let same : text ≡ head_text head = is ∙ ap (take 44) e ∙ take_at (head_text head) after 44 (length-head_text head) in
-    never head (made ∙ ap (λ (rest : List ℕ). source_texts.first_bytes ++ rest) same)
+    never head (made ∙ ap (λ (rest : List ℕ). source_texts.source_first_bytes ++ rest) same)
 
 -- a tile after the last one comes after all
 pub ascending_more : (tiles : List Tile) (tile before : Tile) → Ascending tiles → 0 < length tiles → before ≡ get_or tiles (length tiles - 1) before → tile_cmp before tile ≡ Less → Ascending (tiles ++ tile ∷ [])

@@ -8,10 +8,10 @@ use Rattle.std.proofs.lemmas.Nat.{from_be_bytes-to_be_bytes_4}
 use Rattle.cdb_grid.specs.declared.tile.Tile.{Tile}
 use Rattle.cdb_source.specs.declared.head.SourceHead.{SourceHead}
 use Rattle.cdb_source.specs.Texts.{count_bytes, head_text}
-use Rattle.cdb_model.specs.Records.{first_bytes, record_text, heads_text, entries_text, entry_text}
+use Rattle.cdb_model.specs.Records.{record_first_bytes, record_text, heads_text, entries_text, entry_text}
 use Rattle.cdb_manifest.specs.Entries.{Ascending, IsRecord}
-use Rattle.cdb_manifest.specs.Decoding.{Fields, no_field, to_first, to_version, to_sources, to_head, to_entry, fields_text, AreOfForm, IsNumber, IsNext, IsWhole}
-use Rattle.cdb_manifest.specs.Places.{OneBadPlace, RecordsHaveNoBadPlace}
+use Rattle.cdb_manifest.specs.Decoding.{Fields, no_field, to_first, to_version, to_sources, to_head, to_entry, fields_text, AreOfForm, IsNumberField, IsNextField, IsWholeRecord}
+use Rattle.cdb_manifest.specs.Places.{OneBadField, RecordsHaveNoBadPlace}
 use Rattle.cdb_manifest.proofs.ListLaws.{items_begin}
 use Rattle.cdb_manifest.proofs.EntryLaws.{length-entry_text, entry_cancel}
 use Rattle.cdb_manifest.proofs.FieldLaws.{length-head_text, head_cancel, ascending_front}
@@ -72,16 +72,16 @@ next_entry tiles ts rest tail asc few e = from tiles ts rest tail asc few (items
 
 -- the bytes go on with a next field
 abbrev Follows : Fields → List ℕ → Type 0
-Follows fields rest = (next : List ℕ) × ((after : List ℕ) × (IsNext fields next × (rest ≡ next ++ after)))
+Follows fields rest = (next : List ℕ) × ((after : List ℕ) × (IsNextField fields next × (rest ≡ next ++ after)))
 
 -- a number of the form is a next field of four bytes
-number : (least most n : ℕ) (rest after : List ℕ) → least ≤ n → n ≤ most → rest ≡ count_bytes n ++ after → (next : List ℕ) × ((after : List ℕ) × (IsNumber least most next × (rest ≡ next ++ after)))
+number : (least most n : ℕ) (rest after : List ℕ) → least ≤ n → n ≤ most → rest ≡ count_bytes n ++ after → (next : List ℕ) × ((after : List ℕ) × (IsNumberField least most next × (rest ≡ next ++ after)))
 number least most n rest after enough few e = (count_bytes n, (after, ((n, (enough, few, refl)), e)))
 
 -- of two lists of fields with which the same bytes begin, the longer one goes on with a next field of the shorter one
 next_field : (shorter longer : Fields) (rest tail : List ℕ) → AreOfForm shorter → AreOfForm longer → fields_text shorter ++ rest ≡ fields_text longer ++ tail → length (fields_text shorter) < length (fields_text longer) → Follows shorter rest
 next_field no_field no_field rest tail f g e lt = absurd (omega arith)
-next_field no_field longer rest tail f g e lt = (first_bytes, (drop 8 (fields_text longer ++ tail), (refl, e)))
+next_field no_field longer rest tail f g e lt = (record_first_bytes, (drop 8 (fields_text longer ++ tail), (refl, e)))
 next_field to_first (to_version version) rest tail f g e lt = number 1 4096 version rest _ g.0 g.1 (ap (drop 8) e)
 next_field to_first (to_sources version sources) rest tail f g e lt = number 1 4096 version rest _ g.0.0 g.0.1 (ap (drop 8) e)
 next_field to_first (to_head version sources tiles heads) rest tail f g e lt = number 1 4096 version rest _ g.0.0 g.0.1 (ap (drop 8) e)
@@ -116,7 +116,7 @@ next_field (to_entry v t hs es) _ rest tail f g e lt = absurd (omega arith)
 
 -- fields with which the bytes of a record begin and that are at least as long are all of them
 at_end : (version : ℕ) (heads : List SourceHead) (tiles : List Tile) (fields : Fields) (rest : List ℕ) → IsRecord version heads tiles → AreOfForm fields → fields_text fields ++ rest ≡ record_text version heads tiles
-    → length (record_text version heads tiles) ≤ length (fields_text fields) → IsWhole fields rest
+    → length (record_text version heads tiles) ≤ length (fields_text fields) → IsWholeRecord fields rest
 at_end version heads tiles (to_head v s t hs) rest r f e le =
     let most = r.heads_most in
     let count : s ≡ length heads = same_number s (length heads) (omega (arith, f.1.1)) (omega arith) (ap (λ (bytes : List ℕ). take 4 (drop 12 bytes)) e) in
@@ -141,7 +141,7 @@ no_bad version heads tiles place r bad = elim (cases_lt (length (fields_text bad
   | inr le ↦ bad.unfinished (at_end version heads tiles bad.fields bad.rest r bad.of_form (sym bad.begins) le)
 ]
 
-pub one_place : OneBadPlace
+pub one_place : OneBadField
 one_place bytes p q a b = elim (cases_order (length (fields_text a.fields)) (length (fields_text b.fields))) [
   | inl same ↦ a.place_is ∙ same ∙ sym b.place_is
   | inr (inl lt) ↦ let n = next_field a.fields b.fields a.rest b.rest a.of_form b.of_form (sym a.begins ∙ b.begins) lt in absurd (a.never n.0 n.1.0 n.1.1.0 n.1.1.1)

@@ -6,7 +6,7 @@ use Rattle.cdb_source.specs.Texts.{count_bytes, head_text}
 use Rattle.cdb_manifest.specs.declared.record_.Record.{Record}
 use Rattle.cdb_manifest.specs.declared.record_error.RecordError.{RecordError}
 use Rattle.cdb_manifest.specs.declared.record_error.RecordError.TheVariants.{Memory, Bad}
-use Rattle.cdb_model.specs.Records.{first_bytes, version_text, sources_text, front_text, heads_text, entries_text, entry_text}
+use Rattle.cdb_model.specs.Records.{record_first_bytes, version_text, sources_text, record_front_text, heads_text, entries_text, entry_text}
 use Rattle.cdb_manifest.specs.Entries.{Ascending}
 
 -- the fields of a record up to some field: up to the first bytes, the version, the number of sources, one of the heads
@@ -22,11 +22,11 @@ pub data Fields : Type 0 where
 -- the text of these fields
 abbrev pub fields_text : Fields → List ℕ
 fields_text no_field = []
-fields_text to_first = first_bytes
+fields_text to_first = record_first_bytes
 fields_text (to_version version) = version_text version
 fields_text (to_sources version sources) = sources_text version sources
-fields_text (to_head version sources tiles heads) = front_text version sources tiles ++ heads_text heads
-fields_text (to_entry version tiles heads entries) = front_text version (length heads) tiles ++ heads_text heads ++ entries_text entries
+fields_text (to_head version sources tiles heads) = record_front_text version sources tiles ++ heads_text heads
+fields_text (to_entry version tiles heads entries) = record_front_text version (length heads) tiles ++ heads_text heads ++ entries_text entries
 
 abbrev pub IsVersion : ℕ → Type 0
 IsVersion version = (1 ≤ version) × (version ≤ 4096)
@@ -44,41 +44,41 @@ AreOfForm (to_head version sources tiles heads) = IsVersion version × IsSources
 AreOfForm (to_entry version tiles heads entries) = IsVersion version × IsSources (length heads) × (tiles ≤ 16384) × (length entries ≤ tiles) × Ascending entries
 
 -- the bytes of a number from least to most
-abbrev pub IsNumber : ℕ → ℕ → List ℕ → Type 0
-IsNumber least most text = (n : ℕ) × ((least ≤ n) × (n ≤ most) × (text ≡ count_bytes n))
+abbrev pub IsNumberField : ℕ → ℕ → List ℕ → Type 0
+IsNumberField least most text = (n : ℕ) × ((least ≤ n) × (n ≤ most) × (text ≡ count_bytes n))
 
 -- the bytes of a tile that comes after these
 abbrev pub IsEntryAfter : List Tile → List ℕ → Type 0
 IsEntryAfter tiles text = (tile : Tile) × (Ascending (tiles ++ tile ∷ []) × (text ≡ entry_text tile))
 
 -- a text that the next field may have; after the last tile there is none
-abbrev pub IsNext : Fields → List ℕ → Type 0
-IsNext no_field text = text ≡ first_bytes
-IsNext to_first text = IsNumber 1 4096 text
-IsNext (to_version version) text = IsNumber 1 64 text
-IsNext (to_sources version sources) text = IsNumber 0 16384 text
-IsNext (to_head version sources tiles heads) text = (head : SourceHead) × (text ≡ head_text head)
-IsNext (to_entry version tiles heads entries) text = (length entries < tiles) × IsEntryAfter entries text
+abbrev pub IsNextField : Fields → List ℕ → Type 0
+IsNextField no_field text = text ≡ record_first_bytes
+IsNextField to_first text = IsNumberField 1 4096 text
+IsNextField (to_version version) text = IsNumberField 1 64 text
+IsNextField (to_sources version sources) text = IsNumberField 0 16384 text
+IsNextField (to_head version sources tiles heads) text = (head : SourceHead) × (text ≡ head_text head)
+IsNextField (to_entry version tiles heads entries) text = (length entries < tiles) × IsEntryAfter entries text
 
 -- these are all fields, and nothing follows
-abbrev pub IsWhole : Fields → List ℕ → Type 0
-IsWhole (to_entry version tiles heads entries) rest = (length entries ≡ tiles) × (rest ≡ [])
-IsWhole _ rest = ⊥
+abbrev pub IsWholeRecord : Fields → List ℕ → Type 0
+IsWholeRecord (to_entry version tiles heads entries) rest = (length entries ≡ tiles) × (rest ≡ [])
+IsWholeRecord _ rest = ⊥
 
 -- the bytes begin with fields of the form; they aren't a whole record, and no next field follows at the place
-pub record FirstBad (bytes : List ℕ) (place : ℕ) : Type 0 where
+pub record FirstBadField (bytes : List ℕ) (place : ℕ) : Type 0 where
   pub fields : Fields
   pub rest : List ℕ
   pub of_form : AreOfForm fields
   pub begins : bytes ≡ fields_text fields ++ rest
-  pub never : (next after : List ℕ) → IsNext fields next → rest ≡ next ++ after → ⊥
-  pub unfinished : IsWhole fields rest → ⊥
+  pub never : (next after : List ℕ) → IsNextField fields next → rest ≡ next ++ after → ⊥
+  pub unfinished : IsWholeRecord fields rest → ⊥
   pub place_is : place ≡ length (fields_text fields)
 
 -- what an error says of the bytes
-abbrev pub Tells : List ℕ → RecordError → Type 0
-Tells bytes Memory = Unit {0}
-Tells bytes (Bad place) = FirstBad bytes place
+abbrev pub RecordCause : List ℕ → RecordError → Type 0
+RecordCause bytes Memory = Unit {0}
+RecordCause bytes (Bad place) = FirstBadField bytes place
 
 -- the first numbers of a record: its version, and how many sources and tiles it has
 pub record IsFront (version sources tiles : ℕ) : Type 0 where

@@ -21,7 +21,7 @@ pub record IsRecord (version : ℕ) (heads : List SourceHead) (tiles : List Tile
   pub ordered : Ascending tiles
 
 -- each field of the tile stands at its place
-pub record HasTile (bytes : List ℕ) (tile : Tile) : Type 0 where
+pub record HasTileFields (bytes : List ℕ) (tile : Tile) : Type 0 where
   pub family : get_or bytes 0 0 ≡ family_number tile.family
   pub level : cast_signed w8 (get_or bytes 1 0) ≡ tile.level.number
   pub lat : cast_signed w8 (get_or bytes 2 0) ≡ tile.cell.lat

@@ -4,12 +4,12 @@ use Rattle.cdb_grid.specs.declared.tile.Tile.{Tile}
 use Rattle.cdb_source.specs.declared.head.SourceHead.{SourceHead}
 use Rattle.cdb_model.specs.Records.{record_text}
 use Rattle.cdb_manifest.specs.Entries.{IsRecord}
-use Rattle.cdb_manifest.specs.Decoding.{FirstBad}
+use Rattle.cdb_manifest.specs.Decoding.{FirstBadField}
 
 -- the first bad field of the same bytes begins at one place
-abbrev pub OneBadPlace : Type 0
-OneBadPlace = (bytes : List ℕ) (p q : ℕ) → FirstBad bytes p → FirstBad bytes q → p ≡ q
+abbrev pub OneBadField : Type 0
+OneBadField = (bytes : List ℕ) (p q : ℕ) → FirstBadField bytes p → FirstBadField bytes q → p ≡ q
 
 -- the text of a record has no bad field at any place
 abbrev pub RecordsHaveNoBadPlace : Type 0
-RecordsHaveNoBadPlace = (version : ℕ) (heads : List SourceHead) (tiles : List Tile) (place : ℕ) → IsRecord version heads tiles → FirstBad (record_text version heads tiles) place → ⊥
+RecordsHaveNoBadPlace = (version : ℕ) (heads : List SourceHead) (tiles : List Tile) (place : ℕ) → IsRecord version heads tiles → FirstBadField (record_text version heads tiles) place → ⊥

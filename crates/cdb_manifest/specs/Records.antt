@@ -9,10 +9,10 @@ use Rattle.cdb_manifest.specs.declared.record_.Record.{Record}
 use Rattle.cdb_model.specs.Records.{record_text}
 
 -- the text of a record
-abbrev pub text_of : Record → List ℕ
-text_of item = record_text item.version item.heads item.tiles
+abbrev pub record_bytes : Record → List ℕ
+record_bytes item = record_text item.version item.heads item.tiles
 
 -- the text of each publication's record is that of a record
 abbrev pub PublicationsHaveRecords : Type 0
 PublicationsHaveRecords = (version : ℕ) (sources : List Source) (tiles : List Tile) → 1 ≤ version → version ≤ 4096 → IsPublication sources → IsTouched (heads_of sources) tiles
-    → (item : Record) × (text_of item ≡ record_text version (heads_of sources) tiles)
+    → (item : Record) × (record_bytes item ≡ record_text version (heads_of sources) tiles)

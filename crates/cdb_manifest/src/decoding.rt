@@ -1,10 +1,10 @@
 //! Records from their bytes.
 ghost use Rattle.std.specs.Prelude.{◌≡◌, ◌+◌, ◌*◌, ◌<◌, ◌≤◌, ◌++◌, ◌∷◌, [], IsTrue, length, IfOk, IfErr};
 ghost use Rattle.cdb_manifest.specs.declared.record_.Record as records;
-ghost use Rattle.cdb_model.specs.Records.{front_text, heads_text, entries_text};
-ghost use Rattle.cdb_manifest.specs.Records.{text_of};
+ghost use Rattle.cdb_model.specs.Records.{record_front_text, heads_text, entries_text};
+ghost use Rattle.cdb_manifest.specs.Records.{record_bytes};
 ghost use Rattle.cdb_manifest.specs.Entries.{Ascending};
-ghost use Rattle.cdb_manifest.specs.Decoding.{IsFront, TellsHead, TellsEntry, Tells, GivesRecord};
+ghost use Rattle.cdb_manifest.specs.Decoding.{IsFront, TellsHead, TellsEntry, RecordCause, GivesRecord};
 
 use crate::entry::entry_at;
 use crate::fields::{after_first, head_at, number_at};
@@ -29,8 +29,8 @@ struct Numbers {
 /// The fields before the heads, and what follows them.
 fn numbers_at(bytes: &[u8]) -> Result<(Numbers, &[u8]), RecordError>
     ensures form { IfOk result (λ p. IsFront p.0.version p.0.sources p.0.tiles) }
-    ensures read { IfOk result (λ p. bytes.now ≡ front_text p.0.version p.0.sources p.0.tiles ++ p.1.now) }
-    ensures bad { IfErr result (Tells bytes.now) }
+    ensures read { IfOk result (λ p. bytes.now ≡ record_front_text p.0.version p.0.sources p.0.tiles ++ p.1.now) }
+    ensures bad { IfErr result (RecordCause bytes.now) }
 {
     let Some(rest) = after_first(bytes) else {
         return Err(RecordError::Bad { place: 0 });
@@ -127,8 +127,8 @@ fn entries_at(
 
 /// The fields of a record in their order, each read once.
 fn record_of(alloc: Global, bytes: &[u8]) -> Result<Record, RecordError>
-    ensures spelled { IfOk result (λ item. bytes.now ≡ text_of item) }
-    ensures bad { IfErr result (Tells bytes.now) }
+    ensures spelled { IfOk result (λ item. bytes.now ≡ record_bytes item) }
+    ensures bad { IfErr result (RecordCause bytes.now) }
 {
     let (numbers, rest) = numbers_at(bytes)?;
     let (heads, rest) = heads_at(alloc, numbers.sources, rest)?;
@@ -150,9 +150,9 @@ fn record_of(alloc: Global, bytes: &[u8]) -> Result<Record, RecordError>
 /// 0, at which the first field begins that isn't of the form. `Memory` where memory was refused.
 /// Whether the tiles are those that the sources touch is not looked at.
 pub fn decode(alloc: Global, bytes: &[u8]) -> Result<Record, RecordError>
-    ensures spelled { IfOk result (λ item. bytes.now ≡ text_of item) }
-    ensures only { (item : records.Record) → bytes.now ≡ text_of item → GivesRecord item result }
-    ensures bad { IfErr result (Tells bytes.now) }
+    ensures spelled { IfOk result (λ item. bytes.now ≡ record_bytes item) }
+    ensures only { (item : records.Record) → bytes.now ≡ record_bytes item → GivesRecord item result }
+    ensures bad { IfErr result (RecordCause bytes.now) }
 {
     record_of(alloc, bytes)
 }

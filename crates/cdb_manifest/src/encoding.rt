@@ -1,7 +1,7 @@
 //! The bytes of a record.
 ghost use Rattle.std.specs.Prelude.{◌≡◌, ◌++◌, length, OnOk, IfOk};
 ghost use Rattle.cdb_model.specs.Records as texts;
-ghost use Rattle.cdb_manifest.specs.Records.{text_of};
+ghost use Rattle.cdb_manifest.specs.Records.{record_bytes};
 
 use crate::record_::Record;
 use cdb_grid::{Family, Tile};
@@ -23,7 +23,7 @@ fn family_number(family: Family) -> u8
 }
 
 fn put_front(out: &mut Vec<u8>, item: &Record) -> Result<(), AllocError>
-    ensures { OnOk result (out.new.items ≡ out.old.items ++ texts.front_text item.now.version (length item.now.heads) (length item.now.tiles)) }
+    ensures { OnOk result (out.new.items ≡ out.old.items ++ texts.record_front_text item.now.version (length item.now.heads) (length item.now.tiles)) }
 {
     out.extend_from_slice(&FIRST_BYTES)?;
     out.extend_from_slice(&item.version.to_be_bytes())?;
@@ -66,7 +66,7 @@ fn put_entries(out: &mut Vec<u8>, tiles: &[Tile]) -> Result<(), AllocError>
 
 /// The bytes of a record. All numbers are big endian, and signed ones two's complement.
 pub fn encode(alloc: Global, item: &Record) -> Result<Vec<u8>, AllocError>
-    ensures { IfOk result (λ bytes. bytes.items ≡ text_of item.now) }
+    ensures { IfOk result (λ bytes. bytes.items ≡ record_bytes item.now) }
 {
     let mut out = Vec::new(alloc);
     put_front(&mut out, item)?;

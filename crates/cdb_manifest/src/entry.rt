@@ -4,7 +4,7 @@ ghost use Rattle.std.specs.Int.{w16, w32, from_be_bytes, cast_signed};
 ghost use Rattle.cdb_grid.specs.declared.family.Family as families;
 ghost use Rattle.cdb_grid.specs.declared.tile.Tile as tiles;
 ghost use Rattle.cdb_model.specs.Records.{family_number, entry_text};
-ghost use Rattle.cdb_manifest.specs.Entries.{HasTile};
+ghost use Rattle.cdb_manifest.specs.Entries.{HasTileFields};
 
 use cdb_grid::{Family, Geocell, Level, Tile, tiles_across};
 
@@ -35,7 +35,7 @@ fn longitude_in(entry: &[u8; 16]) -> i16
 
 /// The tile whose entry these bytes are.
 pub(crate) fn tile_of(entry: &[u8; 16]) -> Option<Tile>
-    ensures { MatchOption result ((tile : tiles.Tile) → HasTile entry.now tile → ⊥) (λ tile. HasTile entry.now tile) }
+    ensures { MatchOption result ((tile : tiles.Tile) → HasTileFields entry.now tile → ⊥) (λ tile. HasTileFields entry.now tile) }
 {
     if entry[3] != 0 || entry[6] != 0 || entry[7] != 0 {
         return None;

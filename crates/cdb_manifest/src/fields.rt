@@ -2,15 +2,15 @@
 ghost use Rattle.std.specs.Prelude.{◌≡◌, ◌≤◌, ◌++◌, ℕ, List, length, MatchOption};
 ghost use Rattle.cdb_source.specs.Texts as source_texts;
 ghost use Rattle.cdb_source.specs.declared.head.SourceHead as heads;
-ghost use Rattle.cdb_model.specs.Records.{first_bytes};
-ghost use Rattle.cdb_manifest.specs.Decoding.{IsNumber};
+ghost use Rattle.cdb_model.specs.Records.{record_first_bytes};
+ghost use Rattle.cdb_manifest.specs.Decoding.{IsNumberField};
 
 use crate::encoding::FIRST_BYTES;
 use cdb_source::{SourceHead, decode_head};
 
 /// What follows the first bytes.
 pub(crate) fn after_first(bytes: &[u8]) -> Option<&[u8]>
-    ensures { MatchOption result ((after : List ℕ) → bytes.now ≡ first_bytes ++ after → ⊥) (λ rest. bytes.now ≡ first_bytes ++ rest.now) }
+    ensures { MatchOption result ((after : List ℕ) → bytes.now ≡ record_first_bytes ++ after → ⊥) (λ rest. bytes.now ≡ record_first_bytes ++ rest.now) }
 {
     if !bytes.starts_with(&FIRST_BYTES) {
         return None;
@@ -20,7 +20,7 @@ pub(crate) fn after_first(bytes: &[u8]) -> Option<&[u8]>
 
 /// A number from `least` to `most`, and what follows it.
 pub(crate) fn number_at(bytes: &[u8], least: u32, most: u32) -> Option<(u32, &[u8])>
-    ensures { MatchOption result ((text after : List ℕ) → IsNumber least most text → bytes.now ≡ text ++ after → ⊥)
+    ensures { MatchOption result ((text after : List ℕ) → IsNumberField least most text → bytes.now ≡ text ++ after → ⊥)
         (λ p. (least ≤ p.0) × (p.0 ≤ most) × (bytes.now ≡ source_texts.count_bytes p.0 ++ p.1.now)) }
 {
     let four = bytes.first_chunk::<4>()?;
@@ -34,7 +34,7 @@ pub(crate) fn number_at(bytes: &[u8], least: u32, most: u32) -> Option<(u32, &[u
 /// The text of a head as it stands in a source file.
 fn front_of(text: &[u8]) -> [u8; 52]
     requires { length text.now ≡ 44 }
-    ensures { result ≡ source_texts.first_bytes ++ text.now }
+    ensures { result ≡ source_texts.source_first_bytes ++ text.now }
 {
     let mut front = [0; 52];
     let (first, rest) = front.split_at_mut(8);

@@ -2,7 +2,7 @@
 //! the law.
 ghost use Rattle.cdb_manifest.specs.Records.{PublicationsHaveRecords};
 ghost use Rattle.cdb_manifest.specs.Lengths.{RecordsHaveLength, RecordsAreShort};
-ghost use Rattle.cdb_manifest.specs.Places.{OneBadPlace, RecordsHaveNoBadPlace};
+ghost use Rattle.cdb_manifest.specs.Places.{OneBadField, RecordsHaveNoBadPlace};
 
 /// A version, the heads of a publication's sources and the tiles that they touch, in the stated
 /// order, are a record. So `decode` takes its text.
@@ -13,7 +13,7 @@ pub fn publications_have_records()
 /// The first bad field of the same bytes begins at one place. So the place that `decode` tells is
 /// the only one that it could tell.
 pub fn one_bad_place()
-    ensures { OneBadPlace }
+    ensures { OneBadField }
 {}
 
 /// The text of a record has no bad field. So where `decode` tells a place, the bytes spell no

@@ -12,7 +12,7 @@ use Rattle.cdb_memfiles.specs.declared.call.Call.TheVariants.{Append}
 use Rattle.cdb_memfiles.specs.History.{apply, replay, HasBeen}
 use Rattle.cdb_memfiles.specs.HistoryLaws.{replay-push}
 use Rattle.cdb_memfiles.specs.Calls.{Changes}
-use Rattle.cdb_memfiles.specs.MemDisk.{history, state_of, clock_of, since_of}
+use Rattle.cdb_memfiles.specs.MemDisk.{history, disk_state, clock_of, since_of}
 use Rattle.cdb_memfiles.specs.declared.mem_disk.MemDisk.{MemDisk}
 
 pub elapses_push : (calls later : List Call) (call : Call) → later ≡ calls ++ call ∷ []
@@ -88,7 +88,7 @@ fails_make_dir-same folder old new e = record {
 -- ---- a call of a disk in memory
 -- One call more, which is answered with Ok.
 pub changes_push : {T E : Type 0} {Leaves : State → State → State → Type 0} {v : T} {old new : MemDisk} (call : Call) → history new ≡ history old ++ call ∷ []
-    → Changes state_of clock_of since_of {T = T} {E = E} (apply call) Leaves old new (Ok v)
+    → Changes disk_state clock_of since_of {T = T} {E = E} (apply call) Leaves old new (Ok v)
 changes_push {old = old} {new = new} call e = record {
   ok = state_push (history old) (history new) call e;
   err = tt;
@@ -99,15 +99,15 @@ changes_push {old = old} {new = new} call e = record {
 -- The same of an append, by the bytes of its piece.
 pub changes_append : {T E : Type 0} {Leaves : State → State → State → Type 0} {v : T} {old new : MemDisk} (path : ArrayString) (piece : List ℕ) (bytes : Vec ℕ Global)
     → bytes.items ≡ piece → history new ≡ history old ++ Append path bytes ∷ []
-    → Changes state_of clock_of since_of {T = T} {E = E} (after_append path.bytes piece) Leaves old new (Ok v)
+    → Changes disk_state clock_of since_of {T = T} {E = E} (after_append path.bytes piece) Leaves old new (Ok v)
 changes_append {T = T} {E = E} {Leaves = Leaves} {v = v} {old = old} {new = new} path piece bytes same e =
-    let P : List ℕ → Type 0 = λ xs. Changes state_of clock_of since_of {T = T} {E = E} (after_append path.bytes xs) Leaves old new (Ok v) in
+    let P : List ℕ → Type 0 = λ xs. Changes disk_state clock_of since_of {T = T} {E = E} (after_append path.bytes xs) Leaves old new (Ok v) in
     subst P same (changes_push (Append path bytes) e)
 
 -- A call that fails and is not noted.
 pub changes_none : {T E : Type 0} {after : State → State} {Leaves : State → State → State → Type 0} {x : E} {old new : MemDisk} → history new ≡ history old
-    → Leaves (state_of old) (after (state_of old)) (state_of new)
-    → Changes state_of clock_of since_of {T = T} {E = E} after Leaves old new (Err x)
+    → Leaves (disk_state old) (after (disk_state old)) (disk_state new)
+    → Changes disk_state clock_of since_of {T = T} {E = E} after Leaves old new (Err x)
 changes_none {old = old} {new = new} e leaves = record {
   ok = tt;
   err = leaves;

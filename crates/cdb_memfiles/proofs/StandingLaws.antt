@@ -14,7 +14,7 @@ use Rattle.cdb_model.specs.Maps.{Text, put, folder_above}
 use Rattle.cdb_model.proofs.MapLaws.{put-put, put-same, put-other, same_text}
 use mathlib.Core.Path.{fun_ext}
 use Rattle.cdb_memfiles.specs.declared.standing.Standing.{Standing}
-use Rattle.cdb_memfiles.specs.Standing.{Shown, Standings, shown, shown_by, shown_of, nothing, kept_in, kept_shown}
+use Rattle.cdb_memfiles.specs.Standing.{Shown, Standings, shown, shown_by, shown_of, never_named, kept_in, kept_shown}
 use Rattle.cdb_memfiles.proofs.FileLaws.{path_cmp, view-update}
 
 pub shown-update : (old new : Standings) (path : ArrayString) (w : Option Standing) → tree.UpdatesBy path_cmp (path_cmp path) old new w
@@ -34,10 +34,10 @@ shown-again m one two path x y z e f same = f ∙ ap (λ t. put t path y) e ∙ 
 same_key : (q : Text) (path : ArrayString) → is_at (λ (p : ArrayString). slice_cmp nat_cmp q p.bytes) path ≡ true → q ≡ path.bytes
 same_key q path e = (bytes_eq-Decides q path.bytes).0 (sym (is_eq-slice_cmp q path.bytes) ∙ e)
 
-kept-nothing : (folder q : Text) → nothing ≡ kept_in folder q nothing
+kept-nothing : (folder q : Text) → never_named ≡ kept_in folder q never_named
 kept-nothing folder q = cases (bytes_eq (folder_above q) folder)
   where
-    cases : (b : Bool) → nothing ≡ cond b (kept_shown None (Some None)) nothing
+    cases : (b : Bool) → never_named ≡ cond b (kept_shown None (Some None)) never_named
     cases true = refl
     cases false = refl
 
@@ -83,6 +83,6 @@ put-between m from to x y z = fun_ext (λ q. at q (same_text q from) (same_text 
     at q (inr ne) (inr apart) = put-other (put (put m from x) to z) from y q ne ∙ put-other (put m from x) to z q apart ∙ put-other m from x q ne
         ∙ sym (put-other (put m to z) from y q ne ∙ put-other m to z q apart)
 
-pub shown-empty : (table : Standings) → table.entries ≡ [] → (q : Text) → shown table q ≡ nothing
+pub shown-empty : (table : Standings) → table.entries ≡ [] → (q : Text) → shown table q ≡ never_named
 unfolding shown
 shown-empty table e q = ap (λ es. shown_of (lookup (is_at (λ p. slice_cmp nat_cmp q p.bytes)) es)) e

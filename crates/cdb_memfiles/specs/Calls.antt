@@ -18,8 +18,8 @@ abbrev pub TellsFirst : {E : Type 0} → FileMap → Text → Result (Option Arr
 TellsFirst m folder result = IfOk result (λ found. MatchOption found (NoneUnder m folder) (λ path. IsFirstUnder m folder path.bytes))
 
 -- What a failed call leaves, by the states before it, after it, and left: nothing has changed.
-abbrev pub Stays : State → State → State → Type 0
-Stays old after new = new ≡ old
+abbrev pub IsUnchanged : State → State → State → Type 0
+IsUnchanged old after new = new ≡ old
 
 -- A first part of the piece was added.
 abbrev pub AddsPart : Text → List ℕ → State → State → State → Type 0

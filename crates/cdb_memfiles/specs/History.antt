@@ -21,12 +21,12 @@ apply (Remove path) s = after_remove path.bytes s
 apply (Restore path bytes) s = after_restore path.bytes bytes.items s
 
 -- A disk without files and without folders.
-abbrev pub blank : State
-blank = record { present = λ _. None; may = λ _. Some (None ∷ []); made = λ _. false }
+abbrev pub blank_disk : State
+blank_disk = record { present = λ _. None; may = λ _. Some (None ∷ []); made = λ _. false }
 
 -- The state that the calls lead to, one after another.
 unfoldable pub replay : List Call → State
-replay calls = fold (λ s call. apply call s) blank calls
+replay calls = fold (λ s call. apply call s) blank_disk calls
 
 -- A map that a crash may have left before one of the calls from the `t`-th on, or may leave now.
 unfoldable pub HasBeen : List Call → ℕ → FileMap → Type 0

@@ -7,7 +7,7 @@ use Rattle.cdb_memfiles.specs.declared.call.Call.{Call}
 use Rattle.cdb_memfiles.specs.declared.mem_disk.MemDisk.{MemDisk}
 use Rattle.cdb_memfiles.specs.declared.schedule.Schedule.{Schedule}
 use Rattle.cdb_memfiles.specs.History.{replay, HasBeen}
-use Rattle.cdb_memfiles.specs.Schedule.{IsNumbered, FailsAsListed, fails_next, one_more}
+use Rattle.cdb_memfiles.specs.Schedule.{CountsCall, FailsAsListed, fails_next, one_more}
 
 -- The calls that it answered with Ok and that change something. All that it holds is told by them.
 abbrev pub history : MemDisk → List Call
@@ -25,8 +25,8 @@ reads_of disk = disk.reads
 abbrev pub refused_of : MemDisk → ℕ
 refused_of disk = disk.refused
 
-abbrev pub state_of : MemDisk → State
-state_of disk = replay (history disk)
+abbrev pub disk_state : MemDisk → State
+disk_state disk = replay (history disk)
 
 abbrev pub clock_of : MemDisk → ℕ
 clock_of disk = length (history disk)
@@ -37,7 +37,7 @@ since_of disk = HasBeen (history disk)
 -- A call that changes the disk fails where it is listed, and else only where a growth was refused; and where it fails, nothing
 -- has changed.
 pub record WritesAsListed {T E : Type 0} (old new : MemDisk) (result : Result T E) : Type 0 where
-  pub numbered : IsNumbered (schedule_of old) (schedule_of new)
+  pub numbered : CountsCall (schedule_of old) (schedule_of new)
   pub cause : HasCause (schedule_of old).faults (schedule_of new).faults result
   pub listed : IsTrue (fails_next (schedule_of old)) → IsErr result × (refused_of new ≡ refused_of old)
   pub why : OnErr result (IsTrue (fails_next (schedule_of old)) ⊎ Rose (refused_of old) (refused_of new))

@@ -13,14 +13,14 @@ abbrev pub fails_next : Schedule → Bool
 fails_next s = list_any (λ n. n == one_more s.number) s.fails.items
 
 -- The next call has its number, and the list stays.
-pub record IsNumbered (old new : Schedule) : Type 0 where
+pub record CountsCall (old new : Schedule) : Type 0 where
   pub number : new.number ≡ one_more old.number
   pub fails : new.fails.items ≡ old.fails.items
 
 -- A call that fails where the list says so, and adds one to the count of faults then.
 pub record FailsAsListed {T E : Type 0} (old new : Schedule) (result : Result T E) : Type 0 where
   pub cause : HasCause old.faults new.faults result
-  pub numbered : IsNumbered old new
+  pub numbered : CountsCall old new
   pub listed : IsErr result ↔ IsTrue (fails_next old)
   pub ok : OnOk result (new.faults ≡ old.faults)
   pub err : OnErr result (new.faults ≡ one_more old.faults)

@@ -19,21 +19,21 @@ use Rattle.cdb_memfiles.specs.Files.{bytes_of}
 abbrev pub Shown : Type 0
 Shown = Content × Option Content
 
-abbrev pub first_of : Content → First → Option Content
-first_of now Anything = None
-first_of now Absent = Some None
-first_of now Present = Some now
-first_of now (Older bytes) = Some (Some bytes.items)
+abbrev pub first_shown : Content → First → Option Content
+first_shown now Anything = None
+first_shown now Absent = Some None
+first_shown now Present = Some now
+first_shown now (Older bytes) = Some (Some bytes.items)
 
 abbrev pub shown_by : Standing → Shown
-shown_by standing = (bytes_of standing.now, first_of (bytes_of standing.now) standing.first)
+shown_by standing = (bytes_of standing.now, first_shown (bytes_of standing.now) standing.first)
 
 -- A path that no call has named is absent, and a crash leaves it so.
-abbrev pub nothing : Shown
-nothing = (None, Some None)
+abbrev pub never_named : Shown
+never_named = (None, Some None)
 
 abbrev pub shown_of : Option Standing → Shown
-shown_of None = nothing
+shown_of None = never_named
 shown_of (Some standing) = shown_by standing
 
 abbrev pub Standings : Type 0
@@ -43,17 +43,17 @@ unfoldable pub shown : Standings → Text → Shown
 shown table q = shown_of (get_by (λ path. slice_cmp nat_cmp q path.bytes) table)
 
 -- The possibilities begin with this one, or anything may be left.
-abbrev pub BeginsWith : Option Content → Possible → Type 0
-BeginsWith None may = may ≡ None
-BeginsWith (Some v) may = (rest : List Content) × (may ≡ Some (v ∷ rest))
+abbrev pub BeginsWithContent : Option Content → Possible → Type 0
+BeginsWithContent None may = may ≡ None
+BeginsWithContent (Some v) may = (rest : List Content) × (may ≡ Some (v ∷ rest))
 
 -- What a table shows of a path is so.
 abbrev pub ShowsAt : Shown → Content → Possible → Type 0
-ShowsAt x now may = (x.0 ≡ now) × BeginsWith x.1 may
+ShowsAt x now may = (x.0 ≡ now) × BeginsWithContent x.1 may
 
 -- The table shows the state.
-abbrev pub Shows : (Text → Shown) → State → Type 0
-Shows table s = (q : Text) → ShowsAt (table q) (s.present q) (s.may q)
+abbrev pub ShowsFiles : (Text → Shown) → State → Type 0
+ShowsFiles table s = (q : Text) → ShowsAt (table q) (s.present q) (s.may q)
 
 -- What a pick takes of a path.
 abbrev pub picked_first : Content → Option Content → Content
@@ -72,7 +72,7 @@ picked_shown Torn x = picked_torn x.0 x.1
 -- After a sync of its folder: the present content alone, but where anything may be left of a file.
 abbrev pub kept_shown : Content → Option Content → Shown
 kept_shown now (Some v) = (now, Some now)
-kept_shown None None = nothing
+kept_shown None None = never_named
 kept_shown (Some bytes) None = (Some bytes, None)
 
 -- The same for each path directly in the folder.

@@ -2,8 +2,8 @@ ghost use Rattle.std.specs.Prelude.{◌≡◌, None, IfOk, OnOk};
 ghost use Rattle.cdb_model.specs.Maps.{Text};
 ghost use Rattle.cdb_files.specs.Disk.{State};
 ghost use Rattle.cdb_memfiles.specs.Crash.{only_made, restored_map, IsSettled};
-ghost use Rattle.cdb_memfiles.specs.History.{apply, blank, replay};
-ghost use Rattle.cdb_memfiles.specs.Standing.{shown, shown_by, picked_shown, Shows};
+ghost use Rattle.cdb_memfiles.specs.History.{apply, blank_disk, replay};
+ghost use Rattle.cdb_memfiles.specs.Standing.{shown, shown_by, picked_shown, ShowsFiles};
 
 use crate::call::Call;
 use crate::pick::Pick;
@@ -16,7 +16,7 @@ use std::collections::BTreeMap;
 
 /// What a crash may leave after one call more.
 fn follow(table: &mut Standings, alloc: Global, call: Call) -> Result<(), AllocError>
-    ensures { OnOk result ((s : State) → Shows (shown table.old) s → Shows (shown table.new) (apply call s)) }
+    ensures { OnOk result ((s : State) → ShowsFiles (shown table.old) s → ShowsFiles (shown table.new) (apply call s)) }
 {
     match call {
         Call::MakeDir(_) => {}
@@ -33,7 +33,7 @@ fn follow(table: &mut Standings, alloc: Global, call: Call) -> Result<(), AllocE
 
 /// What a crash may leave after these calls.
 pub fn standings(alloc: Global, calls: Vec<Call>) -> Result<Standings, AllocError>
-    ensures { IfOk result (λ table. Shows (shown table) (replay calls.items)) }
+    ensures { IfOk result (λ table. ShowsFiles (shown table) (replay calls.items)) }
 {
     let mut table = BTreeMap::new(alloc);
     'calls: for call in calls {
@@ -71,14 +71,14 @@ fn restore_one(after: &mut Record, entry: (Path, Standing), pick: Pick) -> Resul
     ensures made { OnOk result ((replay after.new.calls.items).made ≡ (replay after.old.calls.items).made) }
 {
     let (path, standing) = entry;
-    if let Some(bytes) = standing.picked(pick) {
+    if let Some(bytes) = standing.pick(pick) {
         after.restore(&path, bytes)?;
     }
     Ok(())
 }
 
 /// The record of the folders, and each path as it is picked.
-pub fn restored(folders: Record, table: Standings, pick: Pick) -> Result<Record, AllocError>
+pub fn restore_paths(folders: Record, table: Standings, pick: Pick) -> Result<Record, AllocError>
     requires empty { (q : Text) → (replay folders.calls.items).present q ≡ None }
     requires settled { IsSettled (replay folders.calls.items) }
     ensures present { IfOk result (λ after. (q : Text) → (replay after.calls.items).present q ≡ picked_shown pick (shown table q)) }

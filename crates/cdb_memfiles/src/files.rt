@@ -1,5 +1,5 @@
 ghost use Rattle.std.specs.Prelude.{◌≡◌, ◌≢◌, ◌+◌, ◌≤◌, None, Some, length, drop, take, IsOk, OnOk, OnErr, MatchOption};
-ghost use Rattle.cdb_model.specs.Maps.{size_of, Reaches, HasAt, IsThere, put, folder_prefix, NoneUnder, IsFirstUnder};
+ghost use Rattle.cdb_model.specs.Maps.{size_of, HasBytesUpTo, HasAt, IsThere, put, folder_prefix, NoneUnder, IsFirstUnder};
 ghost use Rattle.cdb_files.specs.Disk.{with_piece};
 ghost use Rattle.cdb_memfiles.specs.Files.{content, bytes_of, IsShort};
 
@@ -24,7 +24,7 @@ pub fn size_in(files: &ByPath, path: &Path) -> Option<u64>
 /// Fills `into` with the bytes of the file from `at` on.
 #[tactic(auto, unfolding(crate::specs::Files::content))]
 pub fn read_in(files: &ByPath, path: &Path, at: u64, into: &mut [u8])
-    requires { Reaches (content files.now path.now.bytes) at (length into.old) }
+    requires { HasBytesUpTo (content files.now path.now.bytes) at (length into.old) }
     ensures { HasAt (content files.now path.now.bytes) at into.new }
 {
     let Some(bytes) = files.get(path) else {

@@ -1,8 +1,8 @@
 ghost use Rattle.std.specs.Prelude.{◌≡◌, ◌≢◌, ◌≤◌, ◌+◌, ◌-◌, ◌↔◌, length, IsErr, OnOk, OnErr};
 ghost use Rattle.cdb_model.specs.Causes.{HasCause};
-ghost use Rattle.cdb_model.specs.Maps.{folder_above, Reaches, IsThere};
+ghost use Rattle.cdb_model.specs.Maps.{folder_above, HasBytesUpTo, IsThere};
 ghost use Rattle.cdb_files.specs.Disk.{IsMade, IsSettledAt, after_create, after_append, after_sync_file, after_sync_dir, after_rename, after_remove, after_make_dir, Fails, FailsMakeDir};
-ghost use Rattle.cdb_memfiles.specs.Calls.{TellsSize, GivesBytes, TellsFirst, Reads, Changes, Stays, AddsPart};
+ghost use Rattle.cdb_memfiles.specs.Calls.{TellsSize, GivesBytes, TellsFirst, Reads, Changes, IsUnchanged, AddsPart};
 ghost use Rattle.cdb_memfiles.specs.Schedule.{one_more};
 
 use crate::mem_disk::MemDisk;
@@ -63,7 +63,7 @@ fn spend(left: &mut u64, faults: &mut u64) -> Result<(), Failed>
 }
 
 /// The answer of the disk, whose failure counts.
-fn counted<T>(faults: &mut u64, answer: Result<T, Failed>) -> Result<T, Failed>
+fn count_fault<T>(faults: &mut u64, answer: Result<T, Failed>) -> Result<T, Failed>
     ensures same { result ≡ answer }
     ensures ok { OnOk answer (faults.new ≡ faults.old) }
     ensures err { OnErr answer (faults.new ≡ one_more faults.old) }
@@ -109,11 +109,11 @@ impl<D: Disk> Disk for Fuse<D> {
         ensures fused { IsFused D.fault_count self.old self.new result }
     {
         spend(&mut self.left, &mut self.faults)?;
-        counted(&mut self.faults, self.disk.size(path))
+        count_fault(&mut self.faults, self.disk.size(path))
     }
 
     fn read_at(&mut self, path: &Path, at: u64, into: &mut [u8]) -> Result<(), Failed>
-        requires { D.tells → Reaches ((D.state (inner_of self.old)).present path.now.bytes) at (length into.old) }
+        requires { D.tells → HasBytesUpTo ((D.state (inner_of self.old)).present path.now.bytes) at (length into.old) }
         ensures bytes { D.tells → GivesBytes (D.state (inner_of self.old)).present path.now.bytes at into.new result }
         ensures kept { calls_left self.old ≡ 0 → into.new ≡ into.old }
         ensures rests { Reads D.state D.clock D.since (inner_of self.old) (inner_of self.new) }
@@ -122,7 +122,7 @@ impl<D: Disk> Disk for Fuse<D> {
         ensures fused { IsFused D.fault_count self.old self.new result }
     {
         spend(&mut self.left, &mut self.faults)?;
-        counted(&mut self.faults, self.disk.read_at(path, at, into))
+        count_fault(&mut self.faults, self.disk.read_at(path, at, into))
     }
 
     fn first_under(&mut self, folder: &Path) -> Result<Option<Path>, Failed>
@@ -132,7 +132,7 @@ impl<D: Disk> Disk for Fuse<D> {
         ensures fused { IsFused D.fault_count self.old self.new result }
     {
         spend(&mut self.left, &mut self.faults)?;
-        counted(&mut self.faults, self.disk.first_under(folder))
+        count_fault(&mut self.faults, self.disk.first_under(folder))
     }
 
     fn make_dir(&mut self, folder: &Path) -> Result<(), Failed>
@@ -142,7 +142,7 @@ impl<D: Disk> Disk for Fuse<D> {
         ensures fused { IsFused D.fault_count self.old self.new result }
     {
         spend(&mut self.left, &mut self.faults)?;
-        counted(&mut self.faults, self.disk.make_dir(folder))
+        count_fault(&mut self.faults, self.disk.make_dir(folder))
     }
 
     fn create(&mut self, path: &Path) -> Result<(), Failed>
@@ -153,7 +153,7 @@ impl<D: Disk> Disk for Fuse<D> {
         ensures fused { IsFused D.fault_count self.old self.new result }
     {
         spend(&mut self.left, &mut self.faults)?;
-        counted(&mut self.faults, self.disk.create(path))
+        count_fault(&mut self.faults, self.disk.create(path))
     }
 
     fn append(&mut self, path: &Path, piece: &[u8]) -> Result<(), Failed>
@@ -164,28 +164,28 @@ impl<D: Disk> Disk for Fuse<D> {
         ensures fused { IsFused D.fault_count self.old self.new result }
     {
         spend(&mut self.left, &mut self.faults)?;
-        counted(&mut self.faults, self.disk.append(path, piece))
+        count_fault(&mut self.faults, self.disk.append(path, piece))
     }
 
     fn sync_file(&mut self, path: &Path) -> Result<(), Failed>
         requires { D.tells → IsThere ((D.state (inner_of self.old)).present path.now.bytes) }
-        ensures changes { D.tells → Changes D.state D.clock D.since (after_sync_file path.now.bytes) Stays
+        ensures changes { D.tells → Changes D.state D.clock D.since (after_sync_file path.now.bytes) IsUnchanged
             (inner_of self.old) (inner_of self.new) result }
         ensures reads { D.read_count (inner_of self.new) ≡ D.read_count (inner_of self.old) }
         ensures fused { IsFused D.fault_count self.old self.new result }
     {
         spend(&mut self.left, &mut self.faults)?;
-        counted(&mut self.faults, self.disk.sync_file(path))
+        count_fault(&mut self.faults, self.disk.sync_file(path))
     }
 
     fn sync_dir(&mut self, folder: &Path) -> Result<(), Failed>
-        ensures changes { D.tells → Changes D.state D.clock D.since (after_sync_dir folder.now.bytes) Stays
+        ensures changes { D.tells → Changes D.state D.clock D.since (after_sync_dir folder.now.bytes) IsUnchanged
             (inner_of self.old) (inner_of self.new) result }
         ensures reads { D.read_count (inner_of self.new) ≡ D.read_count (inner_of self.old) }
         ensures fused { IsFused D.fault_count self.old self.new result }
     {
         spend(&mut self.left, &mut self.faults)?;
-        counted(&mut self.faults, self.disk.sync_dir(folder))
+        count_fault(&mut self.faults, self.disk.sync_dir(folder))
     }
 
     fn rename(&mut self, from: &Path, to: &Path) -> Result<(), Failed>
@@ -199,7 +199,7 @@ impl<D: Disk> Disk for Fuse<D> {
         ensures fused { IsFused D.fault_count self.old self.new result }
     {
         spend(&mut self.left, &mut self.faults)?;
-        counted(&mut self.faults, self.disk.rename(from, to))
+        count_fault(&mut self.faults, self.disk.rename(from, to))
     }
 
     fn remove(&mut self, path: &Path) -> Result<(), Failed>
@@ -209,7 +209,7 @@ impl<D: Disk> Disk for Fuse<D> {
         ensures fused { IsFused D.fault_count self.old self.new result }
     {
         spend(&mut self.left, &mut self.faults)?;
-        counted(&mut self.faults, self.disk.remove(path))
+        count_fault(&mut self.faults, self.disk.remove(path))
     }
 
     ghost present_possible = { λ fuse told. D.present_possible (inner_of fuse) told };

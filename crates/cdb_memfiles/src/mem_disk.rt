@@ -1,13 +1,13 @@
 ghost use Rattle.std.specs.Prelude.{◌≡◌, ◌≢◌, ◌≤◌, [], length, IfOk, OnErr};
-ghost use Rattle.cdb_model.specs.Maps.{Reaches, IsThere};
+ghost use Rattle.cdb_model.specs.Maps.{HasBytesUpTo, IsThere};
 ghost use Rattle.cdb_files.specs.Disk.{IsImage, after_create, after_append, after_sync_file, after_sync_dir, after_rename, after_remove, after_make_dir, Fails, FailsMakeDir};
-ghost use Rattle.cdb_memfiles.specs.Calls.{TellsSize, GivesBytes, TellsFirst, Changes, Stays, AddsPart};
+ghost use Rattle.cdb_memfiles.specs.Calls.{TellsSize, GivesBytes, TellsFirst, Changes, IsUnchanged, AddsPart};
 ghost use Rattle.cdb_memfiles.specs.Crash.{IsCrashed};
 ghost use Rattle.cdb_memfiles.specs.HistoryLaws.{present_is_possible, counts_now_too, nothing_later};
 ghost use Rattle.cdb_memfiles.specs.Schedule.{one_more};
 
 use crate::call::Call;
-use crate::crash::{made_folders, restored, standings};
+use crate::crash::{made_folders, restore_paths, standings};
 use crate::pick::Pick;
 use crate::record::Record;
 use crate::schedule::Schedule;
@@ -37,7 +37,7 @@ fn refuse(schedule: &mut Schedule, refused: &mut u64) -> Failed
 }
 
 impl MemDisk {
-    ghost use Rattle.cdb_memfiles.specs.MemDisk.{history, schedule_of, reads_of, refused_of, state_of};
+    ghost use Rattle.cdb_memfiles.specs.MemDisk.{history, schedule_of, reads_of, refused_of, disk_state};
 
     /// An empty disk. Its calls are numbered from 1, and those in the list fail and change nothing.
     pub fn new(alloc: Global, fails: Vec<u64>) -> MemDisk
@@ -59,8 +59,8 @@ impl MemDisk {
     /// The disk as it comes back from a crash that leaves what `pick` takes. Its calls are numbered
     /// from 1 again, none of them fails by its number, and its counts begin at 0.
     pub fn crash(self, pick: Pick) -> Result<MemDisk, AllocError>
-        ensures crashed { IfOk result (λ disk. IsCrashed pick (state_of self) (state_of disk)) }
-        ensures image { IfOk result (λ disk. IsImage (state_of self) (state_of disk).present) }
+        ensures crashed { IfOk result (λ disk. IsCrashed pick (disk_state self) (disk_state disk)) }
+        ensures image { IfOk result (λ disk. IsImage (disk_state self) (disk_state disk).present) }
         ensures fails { IfOk result (λ disk. (schedule_of disk).fails.items ≡ []) }
         ensures number { IfOk result (λ disk. (schedule_of disk).number ≡ 0) }
         ensures faults { IfOk result (λ disk. (schedule_of disk).faults ≡ 0) }
@@ -81,7 +81,7 @@ impl MemDisk {
         let folders = made_folders(alloc, calls.as_slice())?;
         let table = standings(alloc, calls)?;
         Ok(MemDisk {
-            record: restored(folders, table, pick)?,
+            record: restore_paths(folders, table, pick)?,
             schedule: Schedule::new(Vec::new(alloc)),
             reads: 0,
             refused: 0,
@@ -104,11 +104,11 @@ impl MemDisk {
 }
 
 impl Disk for MemDisk {
-    ghost use Rattle.cdb_memfiles.specs.MemDisk.{history, schedule_of, reads_of, refused_of, state_of, clock_of, since_of, WritesAsListed, ReadsAsListed};
+    ghost use Rattle.cdb_memfiles.specs.MemDisk.{history, schedule_of, reads_of, refused_of, disk_state, clock_of, since_of, WritesAsListed, ReadsAsListed};
 
     ghost tells = { Unit {0} };
 
-    ghost state = { state_of };
+    ghost state = { disk_state };
 
     ghost clock = { clock_of };
 
@@ -123,7 +123,7 @@ impl Disk for MemDisk {
     }
 
     fn size(&mut self, path: &Path) -> Result<Option<u64>, Failed>
-        ensures size { TellsSize (state_of self.old).present path.now.bytes result }
+        ensures size { TellsSize (disk_state self.old).present path.now.bytes result }
         ensures listed { ReadsAsListed self.old self.new result }
         ensures reads { reads_of self.new ≡ reads_of self.old }
     {
@@ -132,8 +132,8 @@ impl Disk for MemDisk {
     }
 
     fn read_at(&mut self, path: &Path, at: u64, into: &mut [u8]) -> Result<(), Failed>
-        requires { Reaches ((state_of self.old).present path.now.bytes) at (length into.old) }
-        ensures bytes { GivesBytes (state_of self.old).present path.now.bytes at into.new result }
+        requires { HasBytesUpTo ((disk_state self.old).present path.now.bytes) at (length into.old) }
+        ensures bytes { GivesBytes (disk_state self.old).present path.now.bytes at into.new result }
         ensures kept { OnErr result (into.new ≡ into.old) }
         ensures listed { ReadsAsListed self.old self.new result }
         ensures reads { reads_of self.new ≡ one_more (reads_of self.old) }
@@ -146,7 +146,7 @@ impl Disk for MemDisk {
     }
 
     fn first_under(&mut self, folder: &Path) -> Result<Option<Path>, Failed>
-        ensures first { TellsFirst (state_of self.old).present folder.now.bytes result }
+        ensures first { TellsFirst (disk_state self.old).present folder.now.bytes result }
         ensures listed { ReadsAsListed self.old self.new result }
         ensures reads { reads_of self.new ≡ reads_of self.old }
     {
@@ -155,7 +155,7 @@ impl Disk for MemDisk {
     }
 
     fn make_dir(&mut self, folder: &Path) -> Result<(), Failed>
-        ensures changes { Changes state_of clock_of since_of (after_make_dir folder.now.bytes) FailsMakeDir
+        ensures changes { Changes disk_state clock_of since_of (after_make_dir folder.now.bytes) FailsMakeDir
             self.old self.new result }
         ensures listed { WritesAsListed self.old self.new result }
     {
@@ -167,7 +167,7 @@ impl Disk for MemDisk {
     }
 
     fn create(&mut self, path: &Path) -> Result<(), Failed>
-        ensures changes { Changes state_of clock_of since_of (after_create path.now.bytes) Fails
+        ensures changes { Changes disk_state clock_of since_of (after_create path.now.bytes) Fails
             self.old self.new result }
         ensures listed { WritesAsListed self.old self.new result }
     {
@@ -179,8 +179,8 @@ impl Disk for MemDisk {
     }
 
     fn append(&mut self, path: &Path, piece: &[u8]) -> Result<(), Failed>
-        requires { IsThere ((state_of self.old).present path.now.bytes) }
-        ensures changes { Changes state_of clock_of since_of (after_append path.now.bytes piece.now)
+        requires { IsThere ((disk_state self.old).present path.now.bytes) }
+        ensures changes { Changes disk_state clock_of since_of (after_append path.now.bytes piece.now)
             (AddsPart path.now.bytes piece.now) self.old self.new result }
         ensures listed { WritesAsListed self.old self.new result }
     {
@@ -192,7 +192,7 @@ impl Disk for MemDisk {
     }
 
     fn sync_file(&mut self, path: &Path) -> Result<(), Failed>
-        ensures changes { Changes state_of clock_of since_of (after_sync_file path.now.bytes) Stays
+        ensures changes { Changes disk_state clock_of since_of (after_sync_file path.now.bytes) IsUnchanged
             self.old self.new result }
         ensures listed { WritesAsListed self.old self.new result }
     {
@@ -204,7 +204,7 @@ impl Disk for MemDisk {
     }
 
     fn sync_dir(&mut self, folder: &Path) -> Result<(), Failed>
-        ensures changes { Changes state_of clock_of since_of (after_sync_dir folder.now.bytes) Stays
+        ensures changes { Changes disk_state clock_of since_of (after_sync_dir folder.now.bytes) IsUnchanged
             self.old self.new result }
         ensures listed { WritesAsListed self.old self.new result }
     {
@@ -217,8 +217,8 @@ impl Disk for MemDisk {
 
     fn rename(&mut self, from: &Path, to: &Path) -> Result<(), Failed>
         requires differ { from.now.bytes ≢ to.now.bytes }
-        requires there { IsThere ((state_of self.old).present from.now.bytes) }
-        ensures changes { Changes state_of clock_of since_of (after_rename from.now.bytes to.now.bytes) Fails
+        requires there { IsThere ((disk_state self.old).present from.now.bytes) }
+        ensures changes { Changes disk_state clock_of since_of (after_rename from.now.bytes to.now.bytes) Fails
             self.old self.new result }
         ensures listed { WritesAsListed self.old self.new result }
     {
@@ -230,7 +230,7 @@ impl Disk for MemDisk {
     }
 
     fn remove(&mut self, path: &Path) -> Result<(), Failed>
-        ensures changes { Changes state_of clock_of since_of (after_remove path.now.bytes) Fails
+        ensures changes { Changes disk_state clock_of since_of (after_remove path.now.bytes) Fails
             self.old self.new result }
         ensures listed { WritesAsListed self.old self.new result }
     {

@@ -1,6 +1,6 @@
 ghost use Rattle.std.specs.Prelude.{◌≡◌, ◌≢◌, ◌++◌, ◌∷◌, ◌<◌, [], List, length, vec_len, vec_capacity, IfOk, OnOk, OnErr, MatchOption};
 ghost use Rattle.std.proofs.Props.{props};
-ghost use Rattle.cdb_model.specs.Maps.{IsThere, size_of, Reaches, HasAt, NoneUnder, IsFirstUnder};
+ghost use Rattle.cdb_model.specs.Maps.{IsThere, size_of, HasBytesUpTo, HasAt, NoneUnder, IsFirstUnder};
 ghost use Rattle.cdb_files.specs.Disk.{State};
 ghost use Rattle.cdb_memfiles.specs.Files.{IsShort};
 ghost use Rattle.cdb_memfiles.specs.History.{apply, replay};
@@ -126,7 +126,7 @@ impl Record {
     }
 
     pub fn read_at(&self, path: &Path, at: u64, into: &mut [u8])
-        requires { Reaches ((replay self.now.calls.items).present path.now.bytes) at (length into.old) }
+        requires { HasBytesUpTo ((replay self.now.calls.items).present path.now.bytes) at (length into.old) }
         ensures { HasAt ((replay self.now.calls.items).present path.now.bytes) at into.new }
     {
         read_in(&self.files, path, at, into);

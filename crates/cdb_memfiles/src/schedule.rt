@@ -1,5 +1,5 @@
 ghost use Rattle.std.specs.Prelude.{◌≡◌, ◌≤◌};
-ghost use Rattle.cdb_memfiles.specs.Schedule.{one_more, IsNumbered, FailsAsListed};
+ghost use Rattle.cdb_memfiles.specs.Schedule.{one_more, CountsCall, FailsAsListed};
 
 use cdb_files::Failed;
 

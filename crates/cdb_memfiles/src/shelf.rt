@@ -1,5 +1,5 @@
 ghost use Rattle.std.specs.Prelude.{◌≡◌, OnErr, length};
-ghost use Rattle.cdb_model.specs.Maps.{Reaches};
+ghost use Rattle.cdb_model.specs.Maps.{HasBytesUpTo};
 ghost use Rattle.cdb_memfiles.specs.Calls.{TellsSize, GivesBytes};
 ghost use Rattle.cdb_memfiles.specs.Files.{content};
 ghost use Rattle.cdb_memfiles.specs.Schedule.{FailsAsListed};
@@ -52,7 +52,7 @@ impl Shelf for MemShelf {
     }
 
     fn read_at(&mut self, path: &Path, at: u64, into: &mut [u8]) -> Result<(), Failed>
-        requires { Reaches (shelf_files self.old path.now.bytes) at (length into.old) }
+        requires { HasBytesUpTo (shelf_files self.old path.now.bytes) at (length into.old) }
         ensures bytes { GivesBytes (shelf_files self.old) path.now.bytes at into.new result }
         ensures kept { OnErr result (into.new ≡ into.old) }
         ensures files { shelf_files self.new ≡ shelf_files self.old }

@@ -27,7 +27,7 @@ impl Standing {
     ghost use Rattle.cdb_memfiles.specs.Standing.{shown_by, kept_shown, picked_shown, synced_first};
 
     /// With other bytes, or none, and the first possibility that it had.
-    pub fn replaced(self, now: Option<Vec<u8>>) -> Standing
+    pub fn replace(self, now: Option<Vec<u8>>) -> Standing
         ensures { shown_by result ≡ (bytes_of now, (shown_by self).1) }
     {
         let Standing { now: older, first } = self;
@@ -63,21 +63,21 @@ impl Standing {
     }
 
     /// What a crash leaves by this pick.
-    pub fn picked(self, pick: Pick) -> Option<Vec<u8>>
+    pub fn pick(self, pick: Pick) -> Option<Vec<u8>>
         ensures { bytes_of result ≡ picked_shown pick (shown_by self) }
     {
         let Standing { now, first } = self;
         match (pick, first) {
             (Pick::Oldest, First::Anything | First::Absent) => None,
             (Pick::Oldest, First::Older(bytes)) => Some(bytes),
-            (Pick::Torn, First::Anything) => halved(now),
+            (Pick::Torn, First::Anything) => halve(now),
             _ => now,
         }
     }
 }
 
 /// The first half of the bytes.
-fn halved(file: Option<Vec<u8>>) -> Option<Vec<u8>>
+fn halve(file: Option<Vec<u8>>) -> Option<Vec<u8>>
     ensures { bytes_of result ≡ half (bytes_of file) }
 {
     let mut bytes = file?;

@@ -2,7 +2,7 @@ ghost use Rattle.std.specs.Prelude.{◌≡◌, [], None, Some, IfOk, OnOk};
 ghost use Rattle.cdb_model.specs.Maps.{Text, put};
 ghost use Rattle.cdb_files.specs.Disk.{with_piece};
 ghost use Rattle.cdb_memfiles.specs.Files.{bytes_of};
-ghost use Rattle.cdb_memfiles.specs.Standing.{nothing, shown, shown_by, kept_in, synced_first};
+ghost use Rattle.cdb_memfiles.specs.Standing.{never_named, shown, shown_by, kept_in, synced_first};
 
 use crate::standing::{First, Standing};
 use cdb_files::{Path, folder_above};
@@ -15,7 +15,7 @@ pub type Standings = BTreeMap<Path, Standing>;
 /// What stands at the path, which is taken out of the table.
 fn take(table: &mut Standings, path: &Path) -> Standing
     ensures value { shown_by result ≡ shown table.old path.now.bytes }
-    ensures rest { shown table.new ≡ put (shown table.old) path.now.bytes nothing }
+    ensures rest { shown table.new ≡ put (shown table.old) path.now.bytes never_named }
 {
     match table.remove(path) {
         Some(standing) => standing,
@@ -86,17 +86,17 @@ pub fn remove(table: &mut Standings, path: &Path) -> Result<(), AllocError>
     ensures { OnOk result (shown table.new ≡ put (shown table.old) path.now.bytes (None, (shown table.old path.now.bytes).1)) }
 {
     let standing = take(table, path);
-    store(table, path, standing.replaced(None))?;
+    store(table, path, standing.replace(None))?;
     Ok(())
 }
 
 /// `to` has the bytes of `from`, where a crash may leave nothing.
 pub fn rename(table: &mut Standings, from: &Path, to: &Path) -> Result<(), AllocError>
-    ensures { OnOk result (shown table.new ≡ put (put (shown table.old) to.now.bytes ((shown table.old from.now.bytes).0, (put (shown table.old) from.now.bytes nothing to.now.bytes).1)) from.now.bytes nothing) }
+    ensures { OnOk result (shown table.new ≡ put (put (shown table.old) to.now.bytes ((shown table.old from.now.bytes).0, (put (shown table.old) from.now.bytes never_named to.now.bytes).1)) from.now.bytes never_named) }
 {
     let Standing { now, first: _ } = take(table, from);
     let standing = take(table, to);
-    store(table, to, standing.replaced(now))?;
+    store(table, to, standing.replace(now))?;
     take(table, from);
     Ok(())
 }

@@ -116,7 +116,7 @@ fn holds(
 }
 
 /// A disk with the first file, which is synced, whose call of this number fails.
-fn prepared(alloc: Global, file: &Path, number: u64) -> Result<MemDisk, Fail> {
+fn prepare(alloc: Global, file: &Path, number: u64) -> Result<MemDisk, Fail> {
     let mut fails = Vec::new(alloc);
     fails.push(number)?;
     let mut disk = MemDisk::new(alloc, fails);
@@ -184,7 +184,7 @@ fn each_call_fails_where_it_is_listed_and_else_does_its_work(rt: HostRuntime) ->
         row_of(Kind::Remove, 6, None, None),
     ];
     for row in &rows {
-        let mut disk = prepared(rt.alloc(), &file, row.number)?;
+        let mut disk = prepare(rt.alloc(), &file, row.number)?;
         assert!(rt; fails(rt.alloc(), &mut disk, row, &file, &other)?);
         assert!(rt; works(rt.alloc(), &mut disk, row, &file, &other)?);
     }

@@ -4,9 +4,9 @@ use Rattle.std.specs.List.{starts_with}
 use Rattle.std.proofs.lemmas.List.{take-append-drop, take-append-le, append_cancel_left}
 use Rattle.cdb_model.specs.Events as machine
 use Rattle.cdb_model.specs.Events.{Answer}
-use Rattle.cdb_model.specs.AnswerTexts.{text_of, tally}
+use Rattle.cdb_model.specs.AnswerTexts.{text_of_answer, tally}
 use Rattle.cdb_model.specs.Begun.{begun_by, begins, begins_first, unfinished, completes, whole_answers, acknowledged}
-use Rattle.cdb_model.specs.KnownStore.{State, Going, start_at}
+use Rattle.cdb_model.specs.KnownStore.{KnownState, Going, start_at}
 use Rattle.cdb_model.specs.MachineLaws.{AreMadeIn}
 use Rattle.cdb_model.specs.Maps.{Content}
 use Rattle.cdb_model.specs.Publications.{Publication}
@@ -19,18 +19,18 @@ use Rattle.cdb_model.proofs.Changes.{IsQuiet, Changes, Moves, passes_moves}
 
 -- ---- those that a state knows of
 
-left : (old new : State) → new ≡ old → begun_by new ≡ begun_by old ++ []
+left : (old new : KnownState) → new ≡ old → begun_by new ≡ begun_by old ++ []
 left old new e = ap begun_by e ∙ sym (append-nil (begun_by old))
 
-quiet_begins : (s : State) (answer : Answer) → IsQuiet s answer → begins s answer ≡ []
+quiet_begins : (s : KnownState) (answer : Answer) → IsQuiet s answer → begins s answer ≡ []
 quiet_begins s (machine.begun version files) q = absurd q
 quiet_begins s _ q = refl
 
 -- what a state with a publication that is going knows of
-going_knows : (old : State) (now : Going) → old.going ≡ Some now → begun_by old ≡ old.list ++ now.publication ∷ []
+going_knows : (old : KnownState) (now : Going) → old.going ≡ Some now → begun_by old ≡ old.list ++ now.publication ∷ []
 going_knows old now is = ap (λ (o : Option Going). old.list ++ unfinished o old.halted) is
 
-made_begun : (count : ℕ) (old new : State) (answer : Answer) → AreMadeIn known_store count old answer new
+made_begun : (count : ℕ) (old new : KnownState) (answer : Answer) → AreMadeIn known_store count old answer new
     → begun_by new ≡ begun_by old ++ begins old answer
 made_begun count old new machine.going (inl g) = left old new g.1
 made_begun count old new machine.going (inr g) =
@@ -44,7 +44,7 @@ made_begun count old new machine.fault g =
     ap begun_by g.next ∙ sym (going_knows old g.now g.going) ∙ sym (append-nil (begun_by old))
 made_begun count old new _ g = absurd g
 
-changes_begun : (old new : State) (answer : Answer) → Changes old answer new
+changes_begun : (old new : KnownState) (answer : Answer) → Changes old answer new
     → begun_by new ≡ begun_by old ++ begins old answer
 changes_begun old new answer (changes.stays quiet same) =
     ap (λ (l : List Publication). l ++ unfinished new.going new.halted) same.list
@@ -61,14 +61,14 @@ changes_begun old new answer (changes.begins version files is b) =
 changes_begun old new answer (changes.makes count m) = made_begun count old new answer m
 
 -- what is said of steps that no line asked for begins what their answer begins
-late_begins : (count : ℕ) (old new : State) (answer : Answer) → AreMadeIn known_store count old answer new
+late_begins : (count : ℕ) (old new : KnownState) (answer : Answer) → AreMadeIn known_store count old answer new
     → begins_first old (behind answer) ≡ begins old answer
 late_begins count old new machine.going g = refl
 late_begins count old new (machine.published version) g = refl
 late_begins count old new machine.fault g = refl
 late_begins count old new _ g = absurd g
 
-moves_begun : (old new : State) (answers : List Answer) → Moves old answers new
+moves_begun : (old new : KnownState) (answers : List Answer) → Moves old answers new
     → begun_by new ≡ begun_by old ++ begins_first old answers
 moves_begun old new answers (changes.by_line answer is c) =
     changes_begun old new answer c ∙ ap (λ (a : List Answer). begun_by old ++ begins_first old a) (sym is)
@@ -100,40 +100,40 @@ begun_in_order Has old new (item ∷ items) answers r =
 -- ---- those that are complete
 
 -- a list gains as many publications as are said to be complete
-abbrev pub Adds : State → ℕ → State → Type 0
+abbrev pub Adds : KnownState → ℕ → KnownState → Type 0
 Adds old count new = (more : List Publication) × (new.list ≡ old.list ++ more) × (length more ≡ count)
 
-none_more : (old new : State) → new.list ≡ old.list → Adds old 0 new
+none_more : (old new : KnownState) → new.list ≡ old.list → Adds old 0 new
 none_more old new e = ([], e ∙ sym (append-nil old.list), refl)
 
-quiet_completes : (s : State) (answer : Answer) → IsQuiet s answer → completes answer ≡ 0
+quiet_completes : (s : KnownState) (answer : Answer) → IsQuiet s answer → completes answer ≡ 0
 quiet_completes s (machine.published version) q = absurd q
 quiet_completes s _ q = refl
 
-made_adds : (count : ℕ) (old new : State) (answer : Answer) → AreMadeIn known_store count old answer new
+made_adds : (count : ℕ) (old new : KnownState) (answer : Answer) → AreMadeIn known_store count old answer new
     → Adds old (completes answer) new
-made_adds count old new machine.going (inl g) = none_more old new (ap (λ (s : State). s.list) g.1)
-made_adds count old new machine.going (inr g) = none_more old new (ap (λ (s : State). s.list) g.next)
+made_adds count old new machine.going (inl g) = none_more old new (ap (λ (s : KnownState). s.list) g.1)
+made_adds count old new machine.going (inr g) = none_more old new (ap (λ (s : KnownState). s.list) g.next)
 made_adds count old new (machine.published version) g =
-    (g.now.publication ∷ [], ap (λ (s : State). s.list) g.next, refl)
-made_adds count old new machine.fault g = none_more old new (ap (λ (s : State). s.list) g.next)
+    (g.now.publication ∷ [], ap (λ (s : KnownState). s.list) g.next, refl)
+made_adds count old new machine.fault g = none_more old new (ap (λ (s : KnownState). s.list) g.next)
 made_adds count old new _ g = absurd g
 
-changes_add : (old new : State) (answer : Answer) → Changes old answer new → Adds old (completes answer) new
+changes_add : (old new : KnownState) (answer : Answer) → Changes old answer new → Adds old (completes answer) new
 changes_add old new answer (changes.stays quiet same) =
     subst (λ (n : ℕ). Adds old n new) (sym (quiet_completes old answer quiet)) (none_more old new same.list)
 changes_add old new answer (changes.begins version files is b) =
-    subst (λ (a : Answer). Adds old (completes a) new) (sym is) (none_more old new (ap (λ (s : State). s.list) b.next))
+    subst (λ (a : Answer). Adds old (completes a) new) (sym is) (none_more old new (ap (λ (s : KnownState). s.list) b.next))
 changes_add old new answer (changes.makes count m) = made_adds count old new answer m
 
-late_completes : (count : ℕ) (old new : State) (answer : Answer) → AreMadeIn known_store count old answer new
+late_completes : (count : ℕ) (old new : KnownState) (answer : Answer) → AreMadeIn known_store count old answer new
     → tally completes (behind answer) ≡ completes answer
 late_completes count old new machine.going g = refl
 late_completes count old new (machine.published version) g = refl
 late_completes count old new machine.fault g = refl
 late_completes count old new _ g = absurd g
 
-pub moves_add : (old new : State) (answers : List Answer) → Moves old answers new → Adds old (tally completes answers) new
+pub moves_add : (old new : KnownState) (answers : List Answer) → Moves old answers new → Adds old (tally completes answers) new
 moves_add old new answers (changes.by_line answer is c) =
     let one : completes answer ≡ tally completes (answer ∷ []) = omega arith in
     subst (λ (n : ℕ). Adds old n new) (one ∙ ap (tally completes) (sym is)) (changes_add old new answer c)
@@ -146,11 +146,11 @@ pub tally-append : (kind : Answer → ℕ) (answers now : List Answer)
 tally-append kind [] now = omega arith
 tally-append kind (a ∷ answers) now = let rest = tally-append kind answers now in omega (arith, rest)
 
-pub run_adds : (Has : Text → Content → Type 0) (old new : State) (items : List Item) (answers : List Answer)
+pub run_adds : (Has : Text → Content → Type 0) (old new : KnownState) (items : List Item) (answers : List Answer)
     → Run Has old items answers new → Adds old (tally completes answers) new
 run_adds Has old new [] answers r =
     subst (λ (a : List Answer). Adds old (tally completes a) new) (sym r.0)
-    (none_more old new (ap (λ (s : State). s.list) r.1))
+    (none_more old new (ap (λ (s : KnownState). s.list) r.1))
 run_adds Has old new (item ∷ items) answers r =
     let first = moves_add old r.mid r.now (passes_moves Has old r.mid item r.now r.passes) in
     let later = run_adds Has r.mid new items r.later r.rest in
@@ -185,11 +185,11 @@ fewer_whole : (answers : List Answer) (written : Text)
     → tally completes (whole_answers answers written) ≤ tally completes answers
 fewer_whole [] written = omega arith
 fewer_whole (a ∷ answers) written =
-    by (starts_with nat_eq written (text_of a)) (fewer_whole answers (drop (length (text_of a)) written))
+    by (starts_with nat_eq written (text_of_answer a)) (fewer_whole answers (drop (length (text_of_answer a)) written))
   where
     by : (w : Bool)
-        → tally completes (whole_answers answers (drop (length (text_of a)) written)) ≤ tally completes answers
-        → tally completes (cond w (a ∷ whole_answers answers (drop (length (text_of a)) written)) []) ≤ completes a +
+        → tally completes (whole_answers answers (drop (length (text_of_answer a)) written)) ≤ tally completes answers
+        → tally completes (cond w (a ∷ whole_answers answers (drop (length (text_of_answer a)) written)) []) ≤ completes a +
         tally completes answers
     by true fewer = omega arith
     by false fewer = omega arith

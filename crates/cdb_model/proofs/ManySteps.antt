@@ -4,7 +4,7 @@ use Rattle.std.proofs.lemmas.Option.{same_Some, none-some}
 use Rattle.cdb_model.specs.Events as machine
 use Rattle.cdb_model.specs.Events.{Answer}
 use Rattle.cdb_model.specs.MachineLaws.{GoesOnIn, EndsIn, AreMadeIn, ManySteps}
-use Rattle.cdb_model.specs.Stores.{Kind, Which, known, any, kind_of}
+use Rattle.cdb_model.specs.Stores.{Kind, Which, known, any, store_kind}
 use Rattle.cdb_model.specs.Transitions.{StateIn, GoingIn, MovedIn, GivenUpIn, AdvancesIn}
 
 -- a state in which a publication is going with so many steps left
@@ -84,31 +84,31 @@ stood k count old now new is running many (inl none) e =
 stood k count old now new is running many (inr none) e = absurd (none-some (fewer k now) (sym none))
 
 -- what a damaged file may do
-maybe : (w : Which) (X Y : Type 0) → (X → Y) → (kind_of w).Maybe X → (kind_of w).Maybe Y
+maybe : (w : Which) (X Y : Type 0) → (X → Y) → (store_kind w).Maybe X → (store_kind w).Maybe Y
 maybe known X Y f m = m
 maybe any X Y f m = f m
 
-one_more : (w : Which) (count : ℕ) (old : StateIn (kind_of w)) (now : GoingIn (kind_of w)) (answer : Answer)
-    (new : StateIn (kind_of w))
+one_more : (w : Which) (count : ℕ) (old : StateIn (store_kind w)) (now : GoingIn (store_kind w)) (answer : Answer)
+    (new : StateIn (store_kind w))
     → old.going ≡ Some now → old.halted ≡ None → 1 < now.left
-    → AreMadeIn (kind_of w) count (after (kind_of w) old now) answer new
-    → AreMadeIn (kind_of w) (suc count) old answer new
+    → AreMadeIn (store_kind w) count (after (store_kind w) old now) answer new
+    → AreMadeIn (store_kind w) (suc count) old answer new
 one_more w count old now machine.going new is running many (inl g) =
-    inr (stood (kind_of w) count old now new is running many g.0 g.1)
+    inr (stood (store_kind w) count old now new is running many g.0 g.1)
 one_more w count old now machine.going new is running many (inr g) =
-    inr (goes_on (kind_of w) count old now new is running many g)
+    inr (goes_on (store_kind w) count old now new is running many g)
 one_more w count old now (machine.published version) new is running many g =
-    ends (kind_of w) count old now version new is running many g
-one_more w count old now machine.fault new is running many g = given_up (kind_of w) old now new is running g
+    ends (store_kind w) count old now version new is running many g
+one_more w count old now machine.fault new is running many g = given_up (store_kind w) old now new is running g
 one_more w count old now (machine.damaged expected found) new is running many g =
-    maybe w (GivenUpIn (kind_of w) (after (kind_of w) old now) new) (GivenUpIn (kind_of w) old new)
-    (given_up (kind_of w) old now new is running) g
+    maybe w (GivenUpIn (store_kind w) (after (store_kind w) old now) new) (GivenUpIn (store_kind w) old new)
+    (given_up (store_kind w) old now new is running) g
 one_more w count old now _ new is running many g = absurd g
 
 -- the last step that was made
-last : (w : Which) (count : ℕ) (old : StateIn (kind_of w)) (answer : Answer) (new : StateIn (kind_of w))
+last : (w : Which) (count : ℕ) (old : StateIn (store_kind w)) (answer : Answer) (new : StateIn (store_kind w))
     → answer ≢ machine.going
-    → AdvancesIn (kind_of w) old answer new → AreMadeIn (kind_of w) (suc count) old answer new
+    → AdvancesIn (store_kind w) old answer new → AreMadeIn (store_kind w) (suc count) old answer new
 last w count old machine.going new other g = absurd (other refl)
 last w count old (machine.published version) new other g =
     let l = g.last in
@@ -126,18 +126,18 @@ last w count old (machine.damaged expected found) new other g = g
 last w count old _ new other g = absurd g
 
 -- no step
-none : (w : Which) (count : ℕ) (old : StateIn (kind_of w)) (answer : Answer) (new : StateIn (kind_of w)) → (count ≡ 0)
+none : (w : Which) (count : ℕ) (old : StateIn (store_kind w)) (answer : Answer) (new : StateIn (store_kind w)) → (count ≡ 0)
     ⊎ (old.going ≡ None)
-    → answer ≡ machine.going → new ≡ old → AreMadeIn (kind_of w) count old answer new
+    → answer ≡ machine.going → new ≡ old → AreMadeIn (store_kind w) count old answer new
 none w count old answer new why is e =
-    subst (λ (a : Answer). AreMadeIn (kind_of w) count old a new) (sym is) (inl (why, e))
+    subst (λ (a : Answer). AreMadeIn (store_kind w) count old a new) (sym is) (inl (why, e))
 
 pub many_steps : ManySteps
 many_steps w zero old answer new m = none w zero old answer new (inl refl) m.0 m.1
 many_steps w (suc n) old answer new (inl m) = none w (suc n) old answer new (inr m.0) m.1 m.2
 many_steps w (suc n) old answer new (inr (inl m)) = last w n old answer new m.0 m.1
 many_steps w (suc n) old answer new (inr (inr m)) =
-    let moved : MovedIn (kind_of w) old m.0 = m.1 in
+    let moved : MovedIn (store_kind w) old m.0 = m.1 in
     one_more w n old moved.now answer new moved.going moved.running moved.more
-    (subst (λ (mid : StateIn (kind_of w)). AreMadeIn (kind_of w) n mid answer new) moved.next
+    (subst (λ (mid : StateIn (store_kind w)). AreMadeIn (store_kind w) n mid answer new) moved.next
     (many_steps w n m.0 answer new m.2))

@@ -6,7 +6,7 @@ use Rattle.std.proofs.lemmas.List.{take-append-le}
 use Rattle.std.proofs.lemmas.List.Folds.{find-append}
 use Rattle.std.proofs.lemmas.Option.{same_Some, none-some}
 use Rattle.cdb_model.specs.Events.{Answer}
-use Rattle.cdb_model.specs.KnownStore.{State, start_at}
+use Rattle.cdb_model.specs.KnownStore.{KnownState, start_at}
 use Rattle.cdb_model.specs.Maps.{Content}
 use Rattle.cdb_model.specs.Publications.{Publication, sources_of}
 use Rattle.cdb_model.specs.RunLaws.{SessionsStay}
@@ -68,12 +68,12 @@ found_without id k ss y e = by (nat_eq id k) refl
 -- ---- through a run
 
 -- the sessions of a state have numbers that were given, and versions that are there
-abbrev Fits : State → Type 0
+abbrev Fits : KnownState → Type 0
 Fits s = (id : ℕ) (x : Session) → session_of id s.sessions ≡ Some x → (id ≤ s.opened) × (x.version ≤ length s.list)
 
 -- a session that is found later, of a number that was given before, was there before; and sessions that fit fit later
 -- too
-pub record Carries (old new : State) : Type 0 where
+pub record Carries (old new : KnownState) : Type 0 where
   pub opened : old.opened ≤ new.opened
   pub found : (id : ℕ) (y : Session) → id ≤ old.opened → session_of id new.sessions ≡ Some y
       → session_of id old.sessions ≡ Some y
@@ -83,7 +83,7 @@ within : (id v opened opened' len len' : ℕ) → opened ≤ opened' → len ≤
     → (id ≤ opened') × (v ≤ len')
 within id v opened opened' len len' o l h = let a = h.0 in let b = h.1 in (omega (arith, o, a), omega (arith, l, b))
 
-seats_carry : (old new : State) → length old.list ≤ length new.list → Seats old new → Carries old new
+seats_carry : (old new : KnownState) → length old.list ≤ length new.list → Seats old new → Carries old new
 seats_carry old new longer (changes.sits a b) =
     let was : (id : ℕ) (y : Session) → session_of id new.sessions ≡ Some y → session_of id old.sessions ≡ Some y =
     λ id y e. subst (λ (ss : List Session). session_of id ss ≡ Some y) a e in
@@ -135,10 +135,10 @@ seats_carry old new longer (changes.opens a b) =
 longer_by : (old new more : List Publication) → new ≡ old ++ more → length old ≤ length new
 longer_by old new more e = let l = ap length e ∙ length-append old more in omega (arith, l)
 
-run_carries : (Has : Text → Content → Type 0) (old new : State) (items : List Item) (answers : List Answer)
+run_carries : (Has : Text → Content → Type 0) (old new : KnownState) (items : List Item) (answers : List Answer)
     → Run Has old items answers new → Carries old new
 run_carries Has old new [] answers r =
-    seats_carry old new (longer_by old.list new.list [] (ap (λ (s : State). s.list) r.1
+    seats_carry old new (longer_by old.list new.list [] (ap (λ (s : KnownState). s.list) r.1
     ∙ sym (append-nil old.list))) (same_seats old old new refl refl r.1)
 run_carries Has old new (item ∷ items) answers r =
     let moves = passes_moves Has old r.mid item r.now r.passes in

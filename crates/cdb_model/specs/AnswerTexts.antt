@@ -12,41 +12,41 @@ sizes_text text expected (Some found) = numbered text (expected ∷ found ∷ []
 sizes_text text expected None = numbered text (expected ∷ []) ++ codes " none"
 
 -- a line, and after that of a tile the tile's bytes
-unfoldable pub text_of : Answer → Text
-text_of (machine.source n) = ended (numbered (codes "source") (n ∷ []))
-text_of (machine.begun version files) = ended (numbered (codes "begun") (version ∷ files ∷ []))
-text_of machine.going = ended (codes "going")
-text_of (machine.published version) = ended (numbered (codes "published") (version ∷ []))
-text_of (machine.session id version) = ended (numbered (codes "session") (id ∷ version ∷ []))
-text_of machine.missing = ended (codes "missing")
-text_of (machine.tile bytes) = ended (numbered (codes "tile") (length bytes ∷ [])) ++ bytes
-text_of machine.closed = ended (codes "closed")
-text_of (machine.versions count) = ended (numbered (codes "versions") (count ∷ []))
-text_of machine.long = ended (codes "refused long")
-text_of machine.syntax = ended (codes "refused syntax")
-text_of (machine.name place) = ended (numbered (codes "refused name") (place ∷ []))
-text_of machine.halted = ended (codes "refused halted")
-text_of machine.busy = ended (codes "refused busy")
-text_of machine.unknown = ended (codes "refused session")
-text_of machine.many = ended (codes "refused sessions")
-text_of machine.nothing = ended (codes "refused nothing")
-text_of machine.full = ended (codes "refused full")
-text_of machine.shelf = ended (codes "refused shelf")
-text_of machine.absent = ended (codes "refused absent")
-text_of machine.too_big = ended (codes "refused input big")
-text_of (machine.input cause) = ended (codes "refused input " ++ word_of cause)
-text_of machine.range = ended (codes "refused range")
-text_of (machine.large load) = ended (numbered (codes "refused large") (load ∷ []))
-text_of (machine.entries count) = ended (numbered (codes "refused entries") (count ∷ []))
-text_of machine.full_of_versions = ended (codes "refused versions")
-text_of machine.fault = ended (codes "refused fault")
-text_of (machine.damaged expected found) = ended (sizes_text (codes "refused damaged") expected found)
-text_of machine.memory = ended (codes "refused memory")
-text_of machine.late_fault = ended (codes "background fault")
-text_of (machine.late_damaged expected found) = ended (sizes_text (codes "background damaged") expected found)
+unfoldable pub text_of_answer : Answer → Text
+text_of_answer (machine.source n) = ended (numbered (codes "source") (n ∷ []))
+text_of_answer (machine.begun version files) = ended (numbered (codes "begun") (version ∷ files ∷ []))
+text_of_answer machine.going = ended (codes "going")
+text_of_answer (machine.published version) = ended (numbered (codes "published") (version ∷ []))
+text_of_answer (machine.session id version) = ended (numbered (codes "session") (id ∷ version ∷ []))
+text_of_answer machine.missing = ended (codes "missing")
+text_of_answer (machine.tile bytes) = ended (numbered (codes "tile") (length bytes ∷ [])) ++ bytes
+text_of_answer machine.closed = ended (codes "closed")
+text_of_answer (machine.versions count) = ended (numbered (codes "versions") (count ∷ []))
+text_of_answer machine.long = ended (codes "refused long")
+text_of_answer machine.syntax = ended (codes "refused syntax")
+text_of_answer (machine.name place) = ended (numbered (codes "refused name") (place ∷ []))
+text_of_answer machine.halted = ended (codes "refused halted")
+text_of_answer machine.busy = ended (codes "refused busy")
+text_of_answer machine.unknown = ended (codes "refused session")
+text_of_answer machine.many = ended (codes "refused sessions")
+text_of_answer machine.nothing = ended (codes "refused nothing")
+text_of_answer machine.full = ended (codes "refused full")
+text_of_answer machine.shelf = ended (codes "refused shelf")
+text_of_answer machine.absent = ended (codes "refused absent")
+text_of_answer machine.too_big = ended (codes "refused input big")
+text_of_answer (machine.input cause) = ended (codes "refused input " ++ word_of cause)
+text_of_answer machine.range = ended (codes "refused range")
+text_of_answer (machine.large load) = ended (numbered (codes "refused large") (load ∷ []))
+text_of_answer (machine.entries count) = ended (numbered (codes "refused entries") (count ∷ []))
+text_of_answer machine.full_of_versions = ended (codes "refused versions")
+text_of_answer machine.fault = ended (codes "refused fault")
+text_of_answer (machine.damaged expected found) = ended (sizes_text (codes "refused damaged") expected found)
+text_of_answer machine.memory = ended (codes "refused memory")
+text_of_answer machine.late_fault = ended (codes "background fault")
+text_of_answer (machine.late_damaged expected found) = ended (sizes_text (codes "background damaged") expected found)
 
 abbrev pub texts_of : List Answer → Text
-texts_of answers = flat_map text_of answers
+texts_of answers = flat_map text_of_answer answers
 
 -- ---- failures of the devices
 

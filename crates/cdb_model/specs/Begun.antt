@@ -6,9 +6,9 @@ use Rattle.cdb_model.specs.Maps.{Content}
 use Rattle.cdb_model.specs.Publications.{Publication, publication_of}
 use Rattle.cdb_model.specs.Events as machine
 use Rattle.cdb_model.specs.Events.{Answer}
-use Rattle.cdb_model.specs.KnownStore.{State, Going}
+use Rattle.cdb_model.specs.KnownStore.{KnownState, Going}
 use Rattle.cdb_model.specs.Runs.{Item, Passes}
-use Rattle.cdb_model.specs.AnswerTexts.{text_of, tally}
+use Rattle.cdb_model.specs.AnswerTexts.{text_of_answer, tally}
 
 -- ---- by the last state
 
@@ -18,11 +18,11 @@ unfinished (Some now) given_up = now.publication ∷ []
 unfinished None given_up = option_to_list given_up
 
 -- all publications that a state knows of: those that are complete, and the one that isn't
-abbrev pub begun_by : State → List Publication
+abbrev pub begun_by : KnownState → List Publication
 begun_by s = s.list ++ unfinished s.going s.halted
 
 -- the publications begun by a run that came from one list to a state, in order
-pub record HasBegun (from : List Publication) (s : State) (begun : List Publication) : Type 0 where
+pub record HasBegun (from : List Publication) (s : KnownState) (begun : List Publication) : Type 0 where
   -- those that are complete
   pub complete : List Publication
   pub list_is : s.list ≡ from ++ complete
@@ -31,18 +31,18 @@ pub record HasBegun (from : List Publication) (s : State) (begun : List Publicat
 -- ---- by the accepted lines `publish`
 
 -- the publication that an answer begins: the sources that were pending
-abbrev pub begins : State → Answer → List Publication
+abbrev pub begins : KnownState → Answer → List Publication
 begins s (machine.begun version files) = publication_of s.pending ∷ []
 begins s _ = []
 
-abbrev pub begins_first : State → List Answer → List Publication
+abbrev pub begins_first : KnownState → List Answer → List Publication
 begins_first s [] = []
 begins_first s (answer ∷ answers) = begins s answer
 
 -- the publications of the lines `publish` that a run accepts, in order
-pub record BeginsFirst (Has : Text → Content → Type 0) (Rest : State → List Answer → List Publication → Type 0)
-    (old : State) (item : Item) (answers : List Answer) (begun : List Publication) : Type 0 where
-  pub mid : State
+pub record BeginsFirst (Has : Text → Content → Type 0) (Rest : KnownState → List Answer → List Publication → Type 0)
+    (old : KnownState) (item : Item) (answers : List Answer) (begun : List Publication) : Type 0 where
+  pub mid : KnownState
   pub now : List Answer
   pub later : List Answer
   pub answers_are : answers ≡ now ++ later
@@ -51,7 +51,7 @@ pub record BeginsFirst (Has : Text → Content → Type 0) (Rest : State → Lis
   pub begun_are : begun ≡ begins_first old now ++ others
   pub rest : Rest mid later others
 
-abbrev pub RunBegins : (Text → Content → Type 0) → State → List Item → List Answer → List Publication → State → Type 0
+abbrev pub RunBegins : (Text → Content → Type 0) → KnownState → List Item → List Answer → List Publication → KnownState → Type 0
 RunBegins Has old [] answers begun new = (answers ≡ []) × (begun ≡ []) × (new ≡ old)
 RunBegins Has old (item ∷ items) answers begun new =
     BeginsFirst Has (λ mid later others. RunBegins Has mid items later others new) old item answers begun
@@ -67,8 +67,8 @@ completes _ = 0
 abbrev pub whole_answers : List Answer → Text → List Answer
 whole_answers [] written = []
 whole_answers (answer ∷ answers) written =
-    if starts_with nat_eq written (text_of answer)
-    then answer ∷ whole_answers answers (drop (length (text_of answer)) written)
+    if starts_with nat_eq written (text_of_answer answer)
+    then answer ∷ whole_answers answers (drop (length (text_of_answer answer)) written)
     else []
 
 -- the publications that what was written acknowledges: the first of those begun, as many as there are answers among

@@ -23,5 +23,5 @@ tile_numbers ss t = last_first (tile_side t) (row_numbers ss t)
 -- the file of a tile of elevations, or of least or greatest ones, is one that the reader of TIFF files is known to read: its
 -- head and its numbers in 16 bits, as many as the square of its side
 pub record IsWrittenTile : Type 0 where
-  pub bytes : (t : Tile) (ss : List Source) → kind_of t.family ≡ Elevation → tile_bytes ss t ≡ written.tile_bytes (tile_side t) (tile_numbers ss t)
+  pub bytes : (t : Tile) (ss : List Source) → kind_of t.family ≡ Elevation → tile_bytes ss t ≡ written.written_tile (tile_side t) (tile_numbers ss t)
   pub count : (t : Tile) (ss : List Source) → length (tile_numbers ss t) ≡ tile_side t * tile_side t

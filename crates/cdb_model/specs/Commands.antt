@@ -14,8 +14,8 @@ pub data Command : Type 0 where
   overlong : Command
 
 -- a blank line, and the line that ends the script
-abbrev pub blank : Command
-blank = said grammar.blank
+abbrev pub blank_line : Command
+blank_line = said grammar.blank
 
 abbrev pub quit : Command
 quit = said grammar.quit

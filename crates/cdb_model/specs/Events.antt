@@ -8,17 +8,17 @@ use Rattle.cdb_model.specs.Maps.{Content}
 -- what a line asks
 pub data Event : Type 0 where
   -- a source whose posts stand in the line
-  give : InlineSource → Event
+  inline_line : InlineSource → Event
   -- a source whose posts a file holds, and what the file has, if it is there
-  load : FileSource → Content → Event
-  begin : Event
+  source_line : FileSource → Content → Event
+  publish_line : Event
   -- so many steps of the publication that is going, or all that are left
-  hasten : ℕ → Event
-  complete : Event
-  connect : Event
-  ask : ℕ → Tile → Event
-  disconnect : ℕ → Event
-  tell : Event
+  step_line : ℕ → Event
+  step_all_line : Event
+  open_line : Event
+  tile_line : ℕ → Tile → Event
+  close_line : ℕ → Event
+  versions_line : Event
   -- lines that ask nothing: of more than 4,096 bytes, not of the grammar, with a file name whose first wrong field
   -- begins at a place
   overlong : Event

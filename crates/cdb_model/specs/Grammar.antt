@@ -14,7 +14,7 @@ use Rattle.cdb_model.specs.declared.line_error.LineError.{LineError}
 use Rattle.cdb_model.specs.declared.line_error.LineError.TheVariants.{Syntax, Name}
 use Rattle.cdb_model.specs.Names.{name, name_fields, FirstWrong}
 use Rattle.cdb_model.specs.Text.{Text}
-use Rattle.cdb_model.specs.Words.{◌>>=◌, words, first_word, field, only_word, digits, signed}
+use Rattle.cdb_model.specs.Words.{◌>>=◌, words, first_word, first_field, only_word, digits, signed}
 
 -- what a source's posts are, its level, its south-west corner and its steps
 pub record Head : Type 0 where
@@ -85,8 +85,8 @@ abbrev pub is_part : Text → Bool
 is_part p = nat_lt 0 (length p) && list_all is_path_byte p && not (bytes_eq p (codes ".")) && not (bytes_eq p (codes ".."))
 
 -- 1 to 128 bytes: parts joined by slashes
-unfoldable pub path : Text → Option Text
-path w = if nat_le (length w) 128 && list_all is_part (slice_split is_slash w) then Some w else None
+unfoldable pub path_word : Text → Option Text
+path_word w = if nat_le (length w) 128 && list_all is_part (slice_split is_slash w) then Some w else None
 
 -- 1 to 128 visible bytes
 unfoldable pub file_name : Text → Option Text
@@ -105,28 +105,28 @@ posts ws = if nat_lt 0 (length ws) && nat_le (length ws) 64 then each (signed 6)
 
 unfoldable pub head : List Text → Option (Head × List Text)
 head ws = do
-  kind ← field kind_word ws
-  level ← field (signed 9) kind.1
-  lat ← field fraction level.1
-  lon ← field fraction lat.1
-  dlat ← field fraction lon.1
-  dlon ← field fraction dlat.1
+  kind ← first_field kind_word ws
+  level ← first_field (signed 9) kind.1
+  lat ← first_field fraction level.1
+  lon ← first_field fraction lat.1
+  dlat ← first_field fraction lon.1
+  dlon ← first_field fraction dlat.1
   Some (record { kind = kind.0; level = level.0; lat = lat.0; lon = lon.0; dlat = dlat.0; dlon = dlon.0 }, dlon.1)
 
 -- the words after `inline`
 unfoldable pub inline_source : List Text → Option InlineSource
 inline_source ws = do
   h ← head ws
-  rows ← field (digits 9) h.1
-  cols ← field (digits 9) rows.1
+  rows ← first_field (digits 9) h.1
+  cols ← first_field (digits 9) rows.1
   option_map (λ ps. record { head = h.0; rows = rows.0; cols = cols.0; posts = ps }) (posts cols.1)
 
 -- the words after `source`
 unfoldable pub file_source : List Text → Option FileSource
 file_source ws = do
   h ← head ws
-  novalue ← field (signed 9) h.1
-  option_map (λ p. record { head = h.0; novalue = novalue.0; path = p }) (only_word path novalue.1)
+  novalue ← first_field (signed 9) h.1
+  option_map (λ p. record { head = h.0; novalue = novalue.0; path = p }) (only_word path_word novalue.1)
 
 -- the word after `step`
 abbrev pub step_word : Text → Option Sentence
@@ -135,7 +135,7 @@ step_word w = if bytes_eq w (codes "all") then Some step_all else option_map ste
 -- the words after `tile`
 unfoldable pub tile_request : List Text → Option Sentence
 tile_request ws = do
-  id ← field (digits 9) ws
+  id ← first_field (digits 9) ws
   option_map (λ name. tile id.0 name) (only_word file_name id.1)
 
 -- a line of this one word

@@ -6,77 +6,77 @@ use Rattle.cdb_model.specs.Grammar.{InlineSource, FileSource}
 use Rattle.cdb_model.specs.Maps.{Content}
 use Rattle.cdb_model.specs.Publications.{Publication}
 use Rattle.cdb_model.specs.Stores.{known_store}
-use Rattle.cdb_model.specs.Transitions.{StateIn, GoingIn, IsIdleIn, IsBusyIn, IsPendingIn, IsPlannedIn, GivesIn, LoadsIn, BegunIn, BeginsIn, MovedIn, PublishedIn, GivenUpIn, AdvancesIn, MakesIn, HasLeftIn, HastensIn, CompletesIn, ConnectsIn, AsksIn, DisconnectsIn, TellsIn, StepIn}
+use Rattle.cdb_model.specs.Transitions.{StateIn, GoingIn, IsIdleIn, IsBusyIn, IsPendingIn, IsPlannedIn, InlineLineIn, SourceLineIn, BegunIn, PublishLineIn, MovedIn, PublishedIn, GivenUpIn, AdvancesIn, MakesIn, HasLeftIn, StepLineIn, StepAllLineIn, OpenLineIn, TileLineIn, CloseLineIn, VersionsLineIn, StepIn}
 
-abbrev pub State : Type 0
-State = StateIn known_store
+abbrev pub KnownState : Type 0
+KnownState = StateIn known_store
 
 abbrev pub Going : Type 0
 Going = GoingIn known_store
 
 -- a store of these publications: nothing pending, nothing going, nothing open
-abbrev pub start_at : List Publication → State
+abbrev pub start_at : List Publication → KnownState
 start_at list = record { list = list; pending = []; going = None; halted = None; sessions = []; opened = 0 }
 
-abbrev pub IsIdle : State → Type 0
+abbrev pub IsIdle : KnownState → Type 0
 IsIdle = IsIdleIn known_store
 
-abbrev pub IsBusy : State → Type 0
+abbrev pub IsBusy : KnownState → Type 0
 IsBusy = IsBusyIn known_store
 
-abbrev pub Gives : State → InlineSource → Answer → State → Type 0
-Gives = GivesIn known_store
+abbrev pub InlineLine : KnownState → InlineSource → Answer → KnownState → Type 0
+InlineLine = InlineLineIn known_store
 
-abbrev pub Loads : State → FileSource → Content → Answer → State → Type 0
-Loads = LoadsIn known_store
+abbrev pub SourceLine : KnownState → FileSource → Content → Answer → KnownState → Type 0
+SourceLine = SourceLineIn known_store
 
-abbrev pub IsPending : State → Type 0
+abbrev pub IsPending : KnownState → Type 0
 IsPending = IsPendingIn known_store
 
-abbrev pub IsPlanned : State → List Tile → ℕ → Type 0
+abbrev pub IsPlanned : KnownState → List Tile → ℕ → Type 0
 IsPlanned = IsPlannedIn known_store
 
-abbrev pub Begun : State → ℕ → ℕ → State → Type 0
+abbrev pub Begun : KnownState → ℕ → ℕ → KnownState → Type 0
 Begun = BegunIn known_store
 
-abbrev pub Begins : State → Answer → State → Type 0
-Begins = BeginsIn known_store
+abbrev pub PublishLine : KnownState → Answer → KnownState → Type 0
+PublishLine = PublishLineIn known_store
 
-abbrev pub Moved : State → State → Type 0
+abbrev pub Moved : KnownState → KnownState → Type 0
 Moved = MovedIn known_store
 
-abbrev pub Published : State → ℕ → State → Type 0
+abbrev pub Published : KnownState → ℕ → KnownState → Type 0
 Published = PublishedIn known_store
 
-abbrev pub GivenUp : State → State → Type 0
+abbrev pub GivenUp : KnownState → KnownState → Type 0
 GivenUp = GivenUpIn known_store
 
-abbrev pub Advances : State → Answer → State → Type 0
+abbrev pub Advances : KnownState → Answer → KnownState → Type 0
 Advances = AdvancesIn known_store
 
-abbrev pub Makes : ℕ → State → Answer → State → Type 0
+abbrev pub Makes : ℕ → KnownState → Answer → KnownState → Type 0
 Makes = MakesIn known_store
 
 abbrev pub HasLeft : Option Going → ℕ → Type 0
 HasLeft = HasLeftIn known_store
 
-abbrev pub Hastens : State → ℕ → Answer → State → Type 0
-Hastens = HastensIn known_store
+abbrev pub StepLine : KnownState → ℕ → Answer → KnownState → Type 0
+StepLine = StepLineIn known_store
 
-abbrev pub Completes : State → Answer → State → Type 0
-Completes = CompletesIn known_store
+abbrev pub StepAllLine : KnownState → Answer → KnownState → Type 0
+StepAllLine = StepAllLineIn known_store
 
-abbrev pub Connects : State → Answer → State → Type 0
-Connects = ConnectsIn known_store
+abbrev pub OpenLine : KnownState → Answer → KnownState → Type 0
+OpenLine = OpenLineIn known_store
 
-abbrev pub Asks : State → ℕ → Tile → Answer → State → Type 0
-Asks = AsksIn known_store
+abbrev pub TileLine : KnownState → ℕ → Tile → Answer → KnownState → Type 0
+TileLine = TileLineIn known_store
 
-abbrev pub Disconnects : State → ℕ → Answer → State → Type 0
-Disconnects = DisconnectsIn known_store
+abbrev pub CloseLine : KnownState → ℕ → Answer → KnownState → Type 0
+CloseLine = CloseLineIn known_store
 
-abbrev pub Tells : State → Answer → State → Type 0
-Tells = TellsIn known_store
+abbrev pub VersionsLine : KnownState → Answer → KnownState → Type 0
+VersionsLine = VersionsLineIn known_store
 
-abbrev pub Step : State → Event → Answer → State → Type 0
+abbrev pub Step : KnownState → Event → Answer → KnownState → Type 0
 Step = StepIn known_store

@@ -2,32 +2,32 @@
 use Rattle.std.specs.Prelude.{◌≡◌, ◌⊎◌, ℕ, ◌+◌, ◌-◌, ◌≤◌, ◌<◌, Some, None}
 use Rattle.cdb_model.specs.Events as machine
 use Rattle.cdb_model.specs.Events.{Event, Answer}
-use Rattle.cdb_model.specs.KnownStore.{State, GivenUp, Step}
-use Rattle.cdb_model.specs.Stores.{Kind, Which, kind_of}
+use Rattle.cdb_model.specs.KnownStore.{KnownState, GivenUp, Step}
+use Rattle.cdb_model.specs.Stores.{Kind, Which, store_kind}
 use Rattle.cdb_model.specs.Transitions.{StateIn, GoingIn, GivenUpIn, MakesIn}
 
 -- ---- one answer
 
 -- the answers that no state and no event settle: memory is wanting, or a call of a device failed
-abbrev pub IsFree : Answer → Type 0
-IsFree machine.memory = Unit {0}
-IsFree machine.shelf = Unit {0}
-IsFree machine.fault = Unit {0}
-IsFree _ = ⊥
+abbrev pub IsUnsettled : Answer → Type 0
+IsUnsettled machine.memory = Unit {0}
+IsUnsettled machine.shelf = Unit {0}
+IsUnsettled machine.fault = Unit {0}
+IsUnsettled _ = ⊥
 
 -- but for these, over a store whose publications are known a state and an event have one answer and one next state
 abbrev pub OneAnswer : Type 0
-OneAnswer = (s : State) (e : Event) (a b : Answer) (t u : State)
-    → Step s e a t → Step s e b u → (IsFree a → ⊥) → (IsFree b → ⊥) → (a ≡ b) × (t ≡ u)
+OneAnswer = (s : KnownState) (e : Event) (a b : Answer) (t u : KnownState)
+    → Step s e a t → Step s e b u → (IsUnsettled a → ⊥) → (IsUnsettled b → ⊥) → (a ≡ b) × (t ≡ u)
 
 -- a failed call of the disk leaves the state, or was one of a step: the publication is given up and the writer halted
-abbrev pub FreeLeaves : State → Answer → State → Type 0
+abbrev pub FreeLeaves : KnownState → Answer → KnownState → Type 0
 FreeLeaves s machine.fault t = (t ≡ s) ⊎ GivenUp s t
 FreeLeaves s a t = t ≡ s
 
 -- the other free answers leave the state
 abbrev pub FreeAnswers : Type 0
-FreeAnswers = (s : State) (e : Event) (a : Answer) (t : State) → Step s e a t → IsFree a → FreeLeaves s a t
+FreeAnswers = (s : KnownState) (e : Event) (a : Answer) (t : KnownState) → Step s e a t → IsUnsettled a → FreeLeaves s a t
 
 -- ---- many steps
 
@@ -62,5 +62,5 @@ module _ (k : Kind) where
 
 -- the same for a store whose publications are known, and for any store
 abbrev pub ManySteps : Type 0
-ManySteps = (w : Which) (count : ℕ) (old : StateIn (kind_of w)) (answer : Answer) (new : StateIn (kind_of w))
-    → MakesIn (kind_of w) count old answer new → AreMadeIn (kind_of w) count old answer new
+ManySteps = (w : Which) (count : ℕ) (old : StateIn (store_kind w)) (answer : Answer) (new : StateIn (store_kind w))
+    → MakesIn (store_kind w) count old answer new → AreMadeIn (store_kind w) count old answer new

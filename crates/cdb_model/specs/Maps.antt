@@ -5,9 +5,7 @@ use Rattle.std.specs.Option.{option_map}
 use Rattle.std.specs.Ordering.{is_gt, nat_cmp}
 use Rattle.std.specs.Cmp.Lexicographic.{slice_cmp}
 use Rattle.std.specs.Str.{bytes_eq}
-
-abbrev pub Text : Type 0
-Text = List ℕ
+pub use Rattle.cdb_model.specs.Text.{Text}
 
 -- What a path has: the bytes of a file, or no file.
 abbrev pub Content : Type 0
@@ -27,9 +25,9 @@ abbrev pub size_of : Content → Option ℕ
 size_of content = option_map length content
 
 -- There is a file, and it has `len` bytes from the place `at` on.
-abbrev pub Reaches : Content → ℕ → ℕ → Type 0
-Reaches None at len = ⊥
-Reaches (Some bytes) at len = at + len ≤ length bytes
+abbrev pub HasBytesUpTo : Content → ℕ → ℕ → Type 0
+HasBytesUpTo None at len = ⊥
+HasBytesUpTo (Some bytes) at len = at + len ≤ length bytes
 
 -- There is a file, and `piece` stands in it from the place `at` on.
 abbrev pub HasAt : Content → ℕ → List ℕ → Type 0

@@ -5,9 +5,7 @@ use Rattle.std.specs.Fmt.{decimal}
 use Rattle.cdb_grid.specs.declared.family.Family.{Family}
 use Rattle.cdb_grid.specs.declared.family.Family.TheVariants.{Elev, Low, High, Mat}
 use Rattle.cdb_grid.specs.declared.tile.Tile.{Tile}
-
-abbrev pub Text : Type 0
-Text = List ℕ
+pub use Rattle.cdb_model.specs.Text.{Text}
 
 -- a number below 100 in two digits, one below 1,000 in three, one below 10,000 in four, and one below 100,000,000 in eight
 abbrev pub two : ℕ → Text

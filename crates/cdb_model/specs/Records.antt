@@ -11,8 +11,8 @@ use Rattle.cdb_source.specs.declared.head.SourceHead.{SourceHead}
 use Rattle.cdb_source.specs.Texts.{count_bytes, head_text}
 
 -- a record begins with these eight bytes: CDBREC1 and a line feed
-abbrev pub first_bytes : List ℕ
-first_bytes = codes "CDBREC1" ++ 10 ∷ []
+abbrev pub record_first_bytes : List ℕ
+record_first_bytes = codes "CDBREC1" ++ 10 ∷ []
 
 -- the number of a family
 abbrev pub family_number : Family → ℕ
@@ -30,13 +30,13 @@ entry_text tile =
 
 -- the first bytes, the version, and how many sources and tiles there are
 abbrev pub version_text : ℕ → List ℕ
-version_text version = first_bytes ++ count_bytes version
+version_text version = record_first_bytes ++ count_bytes version
 
 abbrev pub sources_text : ℕ → ℕ → List ℕ
 sources_text version sources = version_text version ++ count_bytes sources
 
-abbrev pub front_text : ℕ → ℕ → ℕ → List ℕ
-front_text version sources tiles = sources_text version sources ++ count_bytes tiles
+abbrev pub record_front_text : ℕ → ℕ → ℕ → List ℕ
+record_front_text version sources tiles = sources_text version sources ++ count_bytes tiles
 
 -- the texts of heads, and of tiles, one after another
 abbrev pub heads_text : List SourceHead → List ℕ
@@ -47,7 +47,7 @@ entries_text tiles = flat_map entry_text tiles
 
 -- a record: its version, the heads of its sources and its tiles
 abbrev pub record_text : ℕ → List SourceHead → List Tile → List ℕ
-record_text version heads tiles = front_text version (length heads) (length tiles) ++ heads_text heads ++ entries_text tiles
+record_text version heads tiles = record_front_text version (length heads) (length tiles) ++ heads_text heads ++ entries_text tiles
 
 -- the file HEAD: the number of the newest version in decimal without leading zeros, and a line feed
 abbrev pub head_file_text : ℕ → List ℕ

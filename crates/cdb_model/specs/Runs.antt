@@ -12,19 +12,19 @@ use Rattle.cdb_model.specs.Events as machine
 use Rattle.cdb_model.specs.Events.{Event, Answer}
 use Rattle.cdb_model.specs.Stores.{Kind, known_store}
 use Rattle.cdb_model.specs.Transitions.{StateIn, StepIn, MakesIn}
-use Rattle.cdb_model.specs.KnownStore.{State}
+use Rattle.cdb_model.specs.KnownStore.{KnownState}
 
 -- a command is an event, where the shelf has this content at a path
 abbrev pub Means : (Text → Content → Type 0) → Event → Command → Type 0
-Means Has (machine.give w) command = command ≡ said.said (grammar.inline w)
-Means Has (machine.load w content) command = (command ≡ said.said (grammar.source w)) × Has w.path content
-Means Has machine.begin command = command ≡ said.said grammar.publish
-Means Has (machine.hasten n) command = command ≡ said.said (grammar.step n)
-Means Has machine.complete command = command ≡ said.said grammar.step_all
-Means Has machine.connect command = command ≡ said.said grammar.open_session
-Means Has (machine.ask id t) command = command ≡ said.said (grammar.tile id (name t))
-Means Has (machine.disconnect id) command = command ≡ said.said (grammar.close id)
-Means Has machine.tell command = command ≡ said.said grammar.versions
+Means Has (machine.inline_line w) command = command ≡ said.said (grammar.inline w)
+Means Has (machine.source_line w content) command = (command ≡ said.said (grammar.source w)) × Has w.path content
+Means Has machine.publish_line command = command ≡ said.said grammar.publish
+Means Has (machine.step_line n) command = command ≡ said.said (grammar.step n)
+Means Has machine.step_all_line command = command ≡ said.said grammar.step_all
+Means Has machine.open_line command = command ≡ said.said grammar.open_session
+Means Has (machine.tile_line id t) command = command ≡ said.said (grammar.tile id (name t))
+Means Has (machine.close_line id) command = command ≡ said.said (grammar.close id)
+Means Has machine.versions_line command = command ≡ said.said grammar.versions
 Means Has machine.overlong command = command ≡ said.overlong
 Means Has machine.unreadable command = command ≡ said.unreadable
 Means Has (machine.misnamed place) command = Misnames command place
@@ -102,11 +102,11 @@ module _ (k : Kind) where
   RunIn Has old (item ∷ items) answers new = FirstIn Has (λ mid later. RunIn Has mid items later new) old item answers
 
 -- over a store of which all publications are known
-abbrev pub Turn : (Text → Content → Type 0) → State → Command → Answer → State → Type 0
+abbrev pub Turn : (Text → Content → Type 0) → KnownState → Command → Answer → KnownState → Type 0
 Turn = TurnIn known_store
 
-abbrev pub Passes : (Text → Content → Type 0) → State → Item → List Answer → State → Type 0
+abbrev pub Passes : (Text → Content → Type 0) → KnownState → Item → List Answer → KnownState → Type 0
 Passes = PassesIn known_store
 
-abbrev pub Run : (Text → Content → Type 0) → State → List Item → List Answer → State → Type 0
+abbrev pub Run : (Text → Content → Type 0) → KnownState → List Item → List Answer → KnownState → Type 0
 Run = RunIn known_store

@@ -28,8 +28,8 @@ pub record SpellsHead (w : Head) (rows cols : ℕ) (head : SourceHead) : Type 0 
   pub cols_are : head.cols ≡ cols
 
 -- a row of posts that stand one after another, rows of so many each
-abbrev pub row_of_posts : ℕ → List ℤ → ℕ → List ℤ
-row_of_posts cols posts r = take cols (drop (r * cols) posts)
+abbrev pub spelled_row : ℕ → List ℤ → ℕ → List ℤ
+spelled_row cols posts r = take cols (drop (r * cols) posts)
 
 -- a row of a TIFF file's samples, from the top
 abbrev pub row_of_pixels : Bytes → ℕ → List ℤ
@@ -39,7 +39,7 @@ row_of_pixels bytes r = map (λ c. pixel bytes r c) (range_with_len 0 (image_wid
 pub record SpellsSource (w : InlineSource) (s : Source) : Type 0 where
   pub head : SpellsHead w.head w.rows w.cols s.head
   pub count : length w.posts ≡ w.rows * w.cols
-  pub posts : s.posts ≡ map (post_of w.head.kind (none_of w.head.kind)) (last_first w.rows (row_of_posts w.cols w.posts))
+  pub posts : s.posts ≡ map (post_of w.head.kind (none_of w.head.kind)) (last_first w.rows (spelled_row w.cols w.posts))
 
 -- words spell a source whose posts are the samples of a TIFF file; a sample that is the words' number stands for none
 pub record SpellsLoaded (w : FileSource) (bytes : Bytes) (s : Source) : Type 0 where

@@ -75,6 +75,6 @@ pub data Which : Type 0 where
   known : Which
   any : Which
 
-abbrev pub kind_of : Which → Kind
-kind_of known = known_store
-kind_of any = any_store
+abbrev pub store_kind : Which → Kind
+store_kind known = known_store
+store_kind any = any_store

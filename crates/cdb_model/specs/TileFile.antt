@@ -33,12 +33,12 @@ abbrev pub field_of : ℕ → ℕ → List ℕ
 field_of type value = if nat_eq type short then short_bytes value ++ 0 ∷ 0 ∷ [] else long_bytes value
 
 -- an entry of the directory: its tag, its type, the count of its values, and the value
-abbrev pub entry : ℕ → ℕ → ℕ → ℕ → List ℕ
-entry tag type count value = short_bytes tag ++ short_bytes type ++ long_bytes count ++ field_of type value
+abbrev pub tile_entry : ℕ → ℕ → ℕ → ℕ → List ℕ
+tile_entry tag type count value = short_bytes tag ++ short_bytes type ++ long_bytes count ++ field_of type value
 
 -- samples of 8 bits are numbers without a sign, others are two's complement
-abbrev pub sample_format : ℕ → ℕ
-sample_format bits = if nat_eq bits 8 then 1 else 2
+abbrev pub sample_format_of : ℕ → ℕ
+sample_format_of bits = if nat_eq bits 8 then 1 else 2
 
 -- the head of a tile by its side in elements and the bits of an element
 unfoldable pub head_bytes : ℕ → ℕ → List ℕ
@@ -46,23 +46,23 @@ head_bytes side bits =
     -- the byte order, the number 42, the place of the first directory, and how many entries it has
     codes "II" ++ short_bytes 42 ++ long_bytes 8 ++ short_bytes 13
     -- width and length
-    ++ entry 256 short 1 side
-    ++ entry 257 short 1 side
+    ++ tile_entry 256 short 1 side
+    ++ tile_entry 257 short 1 side
     -- bits of a sample, no compression, zero is black
-    ++ entry 258 short 1 bits
-    ++ entry 259 short 1 1
-    ++ entry 262 short 1 1
+    ++ tile_entry 258 short 1 bits
+    ++ tile_entry 259 short 1 1
+    ++ tile_entry 262 short 1 1
     -- place of the strip, samples of an element, rows of the strip, bytes of the strip
-    ++ entry 273 long 1 186
-    ++ entry 277 short 1 1
-    ++ entry 278 short 1 side
-    ++ entry 279 long 1 (side * side * (bits / 8))
+    ++ tile_entry 273 long 1 186
+    ++ tile_entry 277 short 1 1
+    ++ tile_entry 278 short 1 side
+    ++ tile_entry 279 long 1 (side * side * (bits / 8))
     -- resolutions in x and in y, and their unit, which is none
-    ++ entry 282 rational 1 170
-    ++ entry 283 rational 1 178
-    ++ entry 296 short 1 1
+    ++ tile_entry 282 rational 1 170
+    ++ tile_entry 283 rational 1 178
+    ++ tile_entry 296 short 1 1
     -- how a sample is to be read
-    ++ entry 339 short 1 (sample_format bits)
+    ++ tile_entry 339 short 1 (sample_format_of bits)
     -- no further directory, and the two resolutions, each 1 over 1
     ++ long_bytes 0
     ++ long_bytes 1 ++ long_bytes 1

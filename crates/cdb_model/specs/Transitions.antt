@@ -73,14 +73,14 @@ module _ (k : Kind) where
     pub next : new ≡ record old { pending = old.pending ++ source ∷ [] }
 
   -- a source whose posts stand in the line: which answers it may have, and the next state
-  abbrev pub GivesIn : StateIn k → InlineSource → Answer → StateIn k → Type 0
-  GivesIn old w (machine.source n) new = GainsIn (SpellsSource w) old n new
-  GivesIn old w machine.halted new = IsSome old.halted × (new ≡ old)
-  GivesIn old w machine.busy new = IsBusyIn old × (new ≡ old)
-  GivesIn old w machine.full new = IsFullIn old × (new ≡ old)
-  GivesIn old w machine.range new = IsReadyIn old × SpellsNone (SpellsSource w) × (new ≡ old)
-  GivesIn old w machine.memory new = IsIdleIn old × (new ≡ old)
-  GivesIn old w _ new = ⊥
+  abbrev pub InlineLineIn : StateIn k → InlineSource → Answer → StateIn k → Type 0
+  InlineLineIn old w (machine.source n) new = GainsIn (SpellsSource w) old n new
+  InlineLineIn old w machine.halted new = IsSome old.halted × (new ≡ old)
+  InlineLineIn old w machine.busy new = IsBusyIn old × (new ≡ old)
+  InlineLineIn old w machine.full new = IsFullIn old × (new ≡ old)
+  InlineLineIn old w machine.range new = IsReadyIn old × SpellsNone (SpellsSource w) × (new ≡ old)
+  InlineLineIn old w machine.memory new = IsIdleIn old × (new ≡ old)
+  InlineLineIn old w _ new = ⊥
 
   -- a file that is read, of which a source of the words is made
   pub record LoadedIn (w : FileSource) (content : Content) (old : StateIn k) (number : ℕ) (new : StateIn k)
@@ -90,18 +90,18 @@ module _ (k : Kind) where
     pub gains : GainsIn (SpellsLoaded w bytes) old number new
 
   -- the same of a source whose posts a file holds
-  abbrev pub LoadsIn : StateIn k → FileSource → Content → Answer → StateIn k → Type 0
-  LoadsIn old w content (machine.source n) new = LoadedIn w content old n new
-  LoadsIn old w content machine.halted new = IsSome old.halted × (new ≡ old)
-  LoadsIn old w content machine.busy new = IsBusyIn old × (new ≡ old)
-  LoadsIn old w content machine.full new = IsFullIn old × (new ≡ old)
-  LoadsIn old w content machine.shelf new = IsReadyIn old × (new ≡ old)
-  LoadsIn old w content machine.absent new = IsReadyIn old × (content ≡ None) × (new ≡ old)
-  LoadsIn old w content machine.too_big new = IsReadyIn old × IsBig content × (new ≡ old)
-  LoadsIn old w content (machine.input cause) new = IsReadyIn old × IsBad content cause × (new ≡ old)
-  LoadsIn old w content machine.range new = IsReadyIn old × IsUnfit w content × (new ≡ old)
-  LoadsIn old w content machine.memory new = IsIdleIn old × (new ≡ old)
-  LoadsIn old w content _ new = ⊥
+  abbrev pub SourceLineIn : StateIn k → FileSource → Content → Answer → StateIn k → Type 0
+  SourceLineIn old w content (machine.source n) new = LoadedIn w content old n new
+  SourceLineIn old w content machine.halted new = IsSome old.halted × (new ≡ old)
+  SourceLineIn old w content machine.busy new = IsBusyIn old × (new ≡ old)
+  SourceLineIn old w content machine.full new = IsFullIn old × (new ≡ old)
+  SourceLineIn old w content machine.shelf new = IsReadyIn old × (new ≡ old)
+  SourceLineIn old w content machine.absent new = IsReadyIn old × (content ≡ None) × (new ≡ old)
+  SourceLineIn old w content machine.too_big new = IsReadyIn old × IsBig content × (new ≡ old)
+  SourceLineIn old w content (machine.input cause) new = IsReadyIn old × IsBad content cause × (new ≡ old)
+  SourceLineIn old w content machine.range new = IsReadyIn old × IsUnfit w content × (new ≡ old)
+  SourceLineIn old w content machine.memory new = IsIdleIn old × (new ≡ old)
+  SourceLineIn old w content _ new = ⊥
 
   -- ---- a publication
 
@@ -150,17 +150,17 @@ module _ (k : Kind) where
     pub many : k.versions s.list ≡ 4096
 
   -- a publication is asked for
-  abbrev pub BeginsIn : StateIn k → Answer → StateIn k → Type 0
-  BeginsIn old (machine.begun version files) new = BegunIn old version files new
-  BeginsIn old machine.halted new = IsSome old.halted × (new ≡ old)
-  BeginsIn old machine.busy new = IsBusyIn old × (new ≡ old)
-  BeginsIn old machine.nothing new = IsIdleIn old × (old.pending ≡ []) × (new ≡ old)
-  BeginsIn old (machine.large load) new =
+  abbrev pub PublishLineIn : StateIn k → Answer → StateIn k → Type 0
+  PublishLineIn old (machine.begun version files) new = BegunIn old version files new
+  PublishLineIn old machine.halted new = IsSome old.halted × (new ≡ old)
+  PublishLineIn old machine.busy new = IsBusyIn old × (new ≡ old)
+  PublishLineIn old machine.nothing new = IsIdleIn old × (old.pending ≡ []) × (new ≡ old)
+  PublishLineIn old (machine.large load) new =
       IsPendingIn old × HasLoad (publication_of old.pending) load × (16384 < load) × (new ≡ old)
-  BeginsIn old (machine.entries count) new = HasEntriesIn old count × (new ≡ old)
-  BeginsIn old machine.full_of_versions new = IsFullOfVersionsIn old × (new ≡ old)
-  BeginsIn old machine.memory new = IsPendingIn old × (new ≡ old)
-  BeginsIn old _ new = ⊥
+  PublishLineIn old (machine.entries count) new = HasEntriesIn old count × (new ≡ old)
+  PublishLineIn old machine.full_of_versions new = IsFullOfVersionsIn old × (new ≡ old)
+  PublishLineIn old machine.memory new = IsPendingIn old × (new ≡ old)
+  PublishLineIn old _ new = ⊥
 
   -- a step was made, and some are left
   pub record MovedIn (old new : StateIn k) : Type 0 where
@@ -210,17 +210,17 @@ module _ (k : Kind) where
   HasLeftIn (Some now) n = n ≡ now.left
 
   -- so many steps are asked for
-  abbrev pub HastensIn : StateIn k → ℕ → Answer → StateIn k → Type 0
-  HastensIn old n machine.halted new = IsSome old.halted × (new ≡ old)
-  HastensIn old n machine.nothing new = IsIdleIn old × (new ≡ old)
-  HastensIn old n machine.range new = IsBusyIn old × (n ≡ 0) × (new ≡ old)
-  HastensIn old n answer new = IsBusyIn old × (0 < n) × MakesIn n old answer new
+  abbrev pub StepLineIn : StateIn k → ℕ → Answer → StateIn k → Type 0
+  StepLineIn old n machine.halted new = IsSome old.halted × (new ≡ old)
+  StepLineIn old n machine.nothing new = IsIdleIn old × (new ≡ old)
+  StepLineIn old n machine.range new = IsBusyIn old × (n ≡ 0) × (new ≡ old)
+  StepLineIn old n answer new = IsBusyIn old × (0 < n) × MakesIn n old answer new
 
   -- all that are left are asked for
-  abbrev pub CompletesIn : StateIn k → Answer → StateIn k → Type 0
-  CompletesIn old machine.halted new = IsSome old.halted × (new ≡ old)
-  CompletesIn old machine.nothing new = IsIdleIn old × (new ≡ old)
-  CompletesIn old answer new = (n : ℕ) × IsBusyIn old × HasLeftIn old.going n × MakesIn n old answer new
+  abbrev pub StepAllLineIn : StateIn k → Answer → StateIn k → Type 0
+  StepAllLineIn old machine.halted new = IsSome old.halted × (new ≡ old)
+  StepAllLineIn old machine.nothing new = IsIdleIn old × (new ≡ old)
+  StepAllLineIn old answer new = (n : ℕ) × IsBusyIn old × HasLeftIn old.going n × MakesIn n old answer new
 
   -- ---- sessions
 
@@ -232,11 +232,11 @@ module _ (k : Kind) where
     pub next : new ≡ record old { sessions = old.sessions ++ record { id = id; version = version } ∷ []; opened = id }
 
   -- a session is asked for
-  abbrev pub ConnectsIn : StateIn k → Answer → StateIn k → Type 0
-  ConnectsIn old (machine.session id version) new = OpenedIn old id version new
-  ConnectsIn old machine.many new = (64 ≤ length old.sessions) × (new ≡ old)
-  ConnectsIn old machine.memory new = (length old.sessions < 64) × (new ≡ old)
-  ConnectsIn old _ new = ⊥
+  abbrev pub OpenLineIn : StateIn k → Answer → StateIn k → Type 0
+  OpenLineIn old (machine.session id version) new = OpenedIn old id version new
+  OpenLineIn old machine.many new = (64 ≤ length old.sessions) × (new ≡ old)
+  OpenLineIn old machine.memory new = (length old.sessions < 64) × (new ≡ old)
+  OpenLineIn old _ new = ⊥
 
   -- the session is open, and these are the bytes of the tile's file at its version
   pub record ServedIn (s : StateIn k) (id : ℕ) (t : Tile) (bytes : List ℕ) : Type 0 where
@@ -251,39 +251,39 @@ module _ (k : Kind) where
     pub misses : k.Misses s.list session.version t
 
   -- a tile is asked for in a session
-  abbrev pub AsksIn : StateIn k → ℕ → Tile → Answer → StateIn k → Type 0
-  AsksIn old id t (machine.tile bytes) new = ServedIn old id t bytes × (new ≡ old)
-  AsksIn old id t machine.missing new = IsMissingIn old id t × (new ≡ old)
-  AsksIn old id t machine.unknown new = (session_of id old.sessions ≡ None) × (new ≡ old)
-  AsksIn old id t machine.fault new = IsSome (session_of id old.sessions) × (new ≡ old)
-  AsksIn old id t (machine.damaged expected found) new = k.Maybe (IsSome (session_of id old.sessions) × (new ≡ old))
-  AsksIn old id t _ new = ⊥
+  abbrev pub TileLineIn : StateIn k → ℕ → Tile → Answer → StateIn k → Type 0
+  TileLineIn old id t (machine.tile bytes) new = ServedIn old id t bytes × (new ≡ old)
+  TileLineIn old id t machine.missing new = IsMissingIn old id t × (new ≡ old)
+  TileLineIn old id t machine.unknown new = (session_of id old.sessions ≡ None) × (new ≡ old)
+  TileLineIn old id t machine.fault new = IsSome (session_of id old.sessions) × (new ≡ old)
+  TileLineIn old id t (machine.damaged expected found) new = k.Maybe (IsSome (session_of id old.sessions) × (new ≡ old))
+  TileLineIn old id t _ new = ⊥
 
   -- a session is to be closed
-  abbrev pub DisconnectsIn : StateIn k → ℕ → Answer → StateIn k → Type 0
-  DisconnectsIn old id machine.closed new =
+  abbrev pub CloseLineIn : StateIn k → ℕ → Answer → StateIn k → Type 0
+  CloseLineIn old id machine.closed new =
       IsSome (session_of id old.sessions) × (new ≡ record old { sessions = without id old.sessions })
-  DisconnectsIn old id machine.unknown new = (session_of id old.sessions ≡ None) × (new ≡ old)
-  DisconnectsIn old id _ new = ⊥
+  CloseLineIn old id machine.unknown new = (session_of id old.sessions ≡ None) × (new ≡ old)
+  CloseLineIn old id _ new = ⊥
 
   -- ---- lines that leave the state
 
   -- the newest version is asked for
-  abbrev pub TellsIn : StateIn k → Answer → StateIn k → Type 0
-  TellsIn old (machine.versions count) new = (count ≡ k.versions old.list) × (new ≡ old)
-  TellsIn old _ new = ⊥
+  abbrev pub VersionsLineIn : StateIn k → Answer → StateIn k → Type 0
+  VersionsLineIn old (machine.versions count) new = (count ≡ k.versions old.list) × (new ≡ old)
+  VersionsLineIn old _ new = ⊥
 
   -- an event may have this answer, and leads then from the old state to the new one
   abbrev pub StepIn : StateIn k → Event → Answer → StateIn k → Type 0
-  StepIn old (machine.give w) answer new = GivesIn old w answer new
-  StepIn old (machine.load w content) answer new = LoadsIn old w content answer new
-  StepIn old machine.begin answer new = BeginsIn old answer new
-  StepIn old (machine.hasten n) answer new = HastensIn old n answer new
-  StepIn old machine.complete answer new = CompletesIn old answer new
-  StepIn old machine.connect answer new = ConnectsIn old answer new
-  StepIn old (machine.ask id t) answer new = AsksIn old id t answer new
-  StepIn old (machine.disconnect id) answer new = DisconnectsIn old id answer new
-  StepIn old machine.tell answer new = TellsIn old answer new
+  StepIn old (machine.inline_line w) answer new = InlineLineIn old w answer new
+  StepIn old (machine.source_line w content) answer new = SourceLineIn old w content answer new
+  StepIn old machine.publish_line answer new = PublishLineIn old answer new
+  StepIn old (machine.step_line n) answer new = StepLineIn old n answer new
+  StepIn old machine.step_all_line answer new = StepAllLineIn old answer new
+  StepIn old machine.open_line answer new = OpenLineIn old answer new
+  StepIn old (machine.tile_line id t) answer new = TileLineIn old id t answer new
+  StepIn old (machine.close_line id) answer new = CloseLineIn old id answer new
+  StepIn old machine.versions_line answer new = VersionsLineIn old answer new
   StepIn old machine.overlong answer new = IsLong answer × (new ≡ old)
   StepIn old machine.unreadable answer new = IsSyntax answer × (new ≡ old)
   StepIn old (machine.misnamed place) answer new = IsName place answer × (new ≡ old)

@@ -23,8 +23,8 @@ first_word [] = None
 first_word (w ∷ ws) = Some (w, ws)
 
 -- what a reading of one word gives of the first word, and the words after it
-abbrev pub field : {X : Type 0} → (Text → Option X) → List Text → Option (X × List Text)
-field read ws = option_and_then (λ p. option_map (λ x. (x, p.1)) (read p.0)) (first_word ws)
+abbrev pub first_field : {X : Type 0} → (Text → Option X) → List Text → Option (X × List Text)
+first_field read ws = option_and_then (λ p. option_map (λ x. (x, p.1)) (read p.0)) (first_word ws)
 
 -- what a reading of one word gives of the only word that is left
 abbrev pub only_word : {X : Type 0} → (Text → Option X) → List Text → Option X

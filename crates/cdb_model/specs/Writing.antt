@@ -7,7 +7,7 @@ use Rattle.cdb_grid.specs.declared.fraction.Fraction.{Fraction}
 use Rattle.cdb_source.specs.declared.kind.Kind.{Kind}
 use Rattle.cdb_source.specs.declared.kind.Kind.TheVariants.{Elevation, Material}
 use Rattle.cdb_model.specs.Text.{Text}
-use Rattle.cdb_model.specs.Grammar.{Head, InlineSource, FileSource, Sentence, inline, source, publish, step, step_all, open_session, tile, close, versions, quit, blank, path, file_name, line_of}
+use Rattle.cdb_model.specs.Grammar.{Head, InlineSource, FileSource, Sentence, inline, source, publish, step, step_all, open_session, tile, close, versions, quit, blank, path_word, file_name, line_of}
 
 abbrev pub kind_text : Kind → Text
 kind_text Elevation = codes "elev"
@@ -36,28 +36,28 @@ sentence_words quit = codes "quit" ∷ []
 sentence_words blank = []
 
 -- the words with one space between each two
-abbrev pub written : Sentence → Text
-written s = join_with_byte 32 (sentence_words s)
+abbrev pub written_sentence : Sentence → Text
+written_sentence s = join_with_byte 32 (sentence_words s)
 
 -- a signed number of at most so many digits
 abbrev pub HasDigits : ℕ → ℤ → Type 0
 HasDigits most z = nat_abs z < 10 ^ most
 
 -- a fraction of two numbers of at most 18 digits, of which the second has no minus
-pub record IsFraction (f : Fraction) : Type 0 where
+pub record IsWritableFraction (f : Fraction) : Type 0 where
   pub top : HasDigits 18 f.n
   pub bottom : HasDigits 18 f.d
   pub no_minus : pos 0 ≤ℤ f.d
 
-pub record IsHead (h : Head) : Type 0 where
+pub record IsWritableHead (h : Head) : Type 0 where
   pub level : HasDigits 9 h.level
-  pub lat : IsFraction h.lat
-  pub lon : IsFraction h.lon
-  pub dlat : IsFraction h.dlat
-  pub dlon : IsFraction h.dlon
+  pub lat : IsWritableFraction h.lat
+  pub lon : IsWritableFraction h.lon
+  pub dlat : IsWritableFraction h.dlat
+  pub dlon : IsWritableFraction h.dlon
 
 pub record IsInlineSource (s : InlineSource) : Type 0 where
-  pub head : IsHead s.head
+  pub head : IsWritableHead s.head
   pub rows : s.rows < 10 ^ 9
   pub cols : s.cols < 10 ^ 9
   pub some : 0 < length s.posts
@@ -65,9 +65,9 @@ pub record IsInlineSource (s : InlineSource) : Type 0 where
   pub posts : All (HasDigits 6) s.posts
 
 pub record IsFileSource (s : FileSource) : Type 0 where
-  pub head : IsHead s.head
+  pub head : IsWritableHead s.head
   pub novalue : HasDigits 9 s.novalue
-  pub path : path s.path ≡ Some s.path
+  pub path : path_word s.path ≡ Some s.path
 
 -- each of its words has a writing of its form
 abbrev pub IsSentence : Sentence → Type 0
@@ -80,7 +80,7 @@ IsSentence _ = Unit {0}
 
 -- the canonical writing of each line reads back as the line
 abbrev pub WritingReadsBack : Type 0
-WritingReadsBack = (s : Sentence) → IsSentence s → line_of (written s) ≡ Some s
+WritingReadsBack = (s : Sentence) → IsSentence s → line_of (written_sentence s) ≡ Some s
 
 -- what is read of a line has words of their forms
 abbrev pub ReadingHasForm : Type 0

@@ -9,7 +9,7 @@ use Rattle.cdb_grid.specs.Units.{width_at, row_of, column_of}
 use Rattle.cdb_grid.specs.declared.family.Family.{Family}
 use Rattle.cdb_grid.specs.declared.family.Family.TheVariants.{Elev, Low, High, Mat}
 use Rattle.cdb_model.specs.Names.{Text, two, three, lat_text, lon_text, dataset_text, level_text, begins_with_digit}
-use Rattle.cdb_names.specs.Fields.{after, two_at, three_at, lat_of, lat_at, lon_of, is_on_grid, lon_at, family_of, family_at, coarse_of, fine_of, coarse_at, fine_at, level_at, number_at, numbered_at}
+use Rattle.cdb_names.specs.Fields.{after, two_at, three_at, lat_of, lat_at, lon_of, is_on_grid, lon_at, family_of, family_at, coarse_of, fine_of, coarse_at, fine_at, level_at, bounded_number_at, numbered_at}
 use Rattle.cdb_names.proofs.Tools.{both, some_if, chosen, then_some, map_some, some_is, pair_is}
 use Rattle.cdb_names.proofs.DigitLaws.{two_again, two_at_takes, three_at_takes, three_at_again}
 use Rattle.cdb_names.proofs.NumberLaws.{number_takes, number_again}
@@ -264,11 +264,11 @@ level_again (negsuc n) rest h =
 pub numbered_takes : (prefix : Text) (limit : ℕ) (text : Text) (n : ℕ) (rest : Text) → limit ≤ 2 ^ 32 → numbered_at prefix limit text ≡ Some (n, rest) → (n < limit) × (text ≡ prefix ++ (decimal n ++ rest)) × (begins_with_digit rest ≡ false)
 unfolding numbered_at
 numbered_takes prefix limit text n rest small e =
-    let a = then_some (after prefix text) (λ rest. number_at limit rest) (n, rest) e in
+    let a = then_some (after prefix text) (λ rest. bounded_number_at limit rest) (n, rest) e in
     let t = number_takes limit a.0 n rest small a.2 in
     (t.0, after_takes prefix text a.0 a.1 ∙ ap (λ (r : Text). prefix ++ r) t.1, t.2)
 
 pub numbered_again : (prefix : Text) (limit n : ℕ) (rest : Text) → n < limit → limit ≤ 2 ^ 32 → begins_with_digit rest ≡ false → numbered_at prefix limit (prefix ++ (decimal n ++ rest)) ≡ Some (n, rest)
 unfolding numbered_at
 numbered_again prefix limit n rest lt small e =
-    ap (option_and_then (λ rest. number_at limit rest)) (after_again prefix (decimal n ++ rest)) ∙ number_again limit n rest lt small e
+    ap (option_and_then (λ rest. bounded_number_at limit rest)) (after_again prefix (decimal n ++ rest)) ∙ number_again limit n rest lt small e

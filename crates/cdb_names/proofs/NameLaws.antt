@@ -12,7 +12,7 @@ use Rattle.cdb_model.specs.declared.name_error.NameError.{NameError}
 use Rattle.cdb_model.specs.Names.{Text, lat_text, lon_text, dataset_text, level_text, up_text, right_text, name_fields, name, spell, begins_with_digit, BeginsWith}
 use Rattle.cdb_names.specs.declared.folder.Folder.{Folder}
 use Rattle.cdb_names.specs.Fields.{lat_at, lon_at, family_at, level_at, across, numbered_at}
-use Rattle.cdb_names.specs.Reading.{◌>>=◌, wrong_at, field, has_lat, has_lon, has_dataset, has_level, has_up, kept, lat_in, lon_in, family_in, level_in, up_in, name_at, Spelled, spelled}
+use Rattle.cdb_names.specs.Reading.{◌>>=◌, wrong_at, field_or_place, has_lat, has_lon, has_dataset, has_level, has_up, passing, lat_in, lon_in, family_in, level_in, up_in, name_at, Spelled, spelled_tile}
 use Rattle.cdb_names.proofs.Tools.{some_if, some_is, pair_is, not_true, chosen}
 use Rattle.cdb_names.proofs.FieldLaws.{IsLon, IsLevel, lat_takes, lat_again, lon_takes, lon_again, family_takes, family_again, level_takes, level_again, numbered_takes, numbered_again}
 use Rattle.cdb_names.proofs.Settled.{Settles}
@@ -20,26 +20,26 @@ use Rattle.cdb_names.proofs.FolderLaws.{InFolder, IsSound, some_tile, with_lat, 
 
 -- ---- values that pass a test
 
-pub kept_takes : {X : Type 0} (test : X → Bool) (o : Option (X × Text)) (x : X) (rest : Text) → kept test o ≡ Some (x, rest) → (o ≡ Some (x, rest)) × (test x ≡ true)
+pub kept_takes : {X : Type 0} (test : X → Bool) (o : Option (X × Text)) (x : X) (rest : Text) → passing test o ≡ Some (x, rest) → (o ≡ Some (x, rest)) × (test x ≡ true)
 kept_takes test None x rest e = absurd cc
 kept_takes {X} test (Some p) x rest e =
     let g = some_if (test p.0) p (x, rest) e in
     (ap Some g.1, ap (λ (q : X × Text). test q.0) (sym g.1) ∙ g.0)
 
-pub kept_again : {X : Type 0} (test : X → Bool) (o : Option (X × Text)) (x : X) (rest : Text) → o ≡ Some (x, rest) → test x ≡ true → kept test o ≡ Some (x, rest)
-kept_again test o x rest e h = ap (kept test) e ∙ rw h refl
+pub kept_again : {X : Type 0} (test : X → Bool) (o : Option (X × Text)) (x : X) (rest : Text) → o ≡ Some (x, rest) → test x ≡ true → passing test o ≡ Some (x, rest)
+kept_again test o x rest e h = ap (passing test) e ∙ rw h refl
 
 -- one reader gives one answer
-pub same : {A : Type 0} (read : Text → Option (A × Text)) (text spelled : Text) (a b : A) (r rest : Text) → read text ≡ Some (a, r) → spelled ≡ text → read spelled ≡ Some (b, rest) → (b ≡ a) × (rest ≡ r)
-same {A} read text spelled a b r rest e is f =
+pub same : {A : Type 0} (read : Text → Option (A × Text)) (text spelled_tile : Text) (a b : A) (r rest : Text) → read text ≡ Some (a, r) → spelled_tile ≡ text → read spelled_tile ≡ Some (b, rest) → (b ≡ a) × (rest ≡ r)
+same {A} read text spelled_tile a b r rest e is f =
     let p : Some (b, rest) ≡ Some (a, r) = sym f ∙ ap read is ∙ e in
     pair_is b a rest r (some_is (b, rest) (a, r) p)
 
-pub none_some : {A : Type 0} (read : Text → Option (A × Text)) (text spelled : Text) (b : A) (rest : Text) → read text ≡ None → spelled ≡ text → read spelled ≡ Some (b, rest) → ⊥
-none_some {A} read text spelled b rest e is f = let p : Some (b, rest) ≡ None = sym f ∙ ap read is ∙ e in cc p
+pub none_some : {A : Type 0} (read : Text → Option (A × Text)) (text spelled_tile : Text) (b : A) (rest : Text) → read text ≡ None → spelled_tile ≡ text → read spelled_tile ≡ Some (b, rest) → ⊥
+none_some {A} read text spelled_tile b rest e is f = let p : Some (b, rest) ≡ None = sym f ∙ ap read is ∙ e in cc p
 
 -- what a step of the reading came to
-pub step : {A B : Type 0} (text rest : Text) (o : Option A) (f : A → Result B NameError) (r : Result B NameError) → (field text rest o >>= f) ≡ r → ((o ≡ None) × (Err (wrong_at text rest) ≡ r)) ⊎ ((x : A) × (o ≡ Some x) × (f x ≡ r))
+pub step : {A B : Type 0} (text rest : Text) (o : Option A) (f : A → Result B NameError) (r : Result B NameError) → (field_or_place text rest o >>= f) ≡ r → ((o ≡ None) × (Err (wrong_at text rest) ≡ r)) ⊎ ((x : A) × (o ≡ Some x) × (f x ≡ r))
 step text rest None f r e = inl (refl, e)
 step text rest (Some x) f r e = inr (x, refl, e)
 
@@ -283,7 +283,7 @@ module _ (folder : Option Folder) (sound : IsSound folder) (text : Text) where
 
 -- what reading a name says: the tile that the text spells, or where it stops
 abbrev pub Says : Option Folder → Text → Text → Result Spelled NameError → Type 0
-Says folder whole text (Ok s) = (x : InFolder folder) × (spelled x.tile ≡ s) × (text ≡ name x.tile)
+Says folder whole text (Ok s) = (x : InFolder folder) × (spelled_tile x.tile ≡ s) × (text ≡ name x.tile)
 Says folder whole text (Err e) = (rest : Text) × Stops folder text rest × (wrong_at whole rest ≡ e)
 
 module _ (folder : Option Folder) (sound : IsSound folder) (whole text : Text) where
@@ -300,7 +300,7 @@ module _ (folder : Option Folder) (sound : IsSound folder) (whole text : Text) w
             let sh = shares s in
             let t = s.value.tile in
             let parts : text ≡ name s.value.tile = s.begins.parts ∙ ap (λ (x : Text). spell (take 6 (fields_in s.value)) x) is in
-            let same_fields : spelled s.value.tile ≡ found = rw (sh.0, sh.1, sh.2, sh.3, sh.4, sh.5) refl in
+            let same_fields : spelled_tile s.value.tile ≡ found = rw (sh.0, sh.1, sh.2, sh.3, sh.4, sh.5) refl in
             subst (Says folder whole text) h.1 (s.value, same_fields, parts)
         | inr h ↦ stopped r rest (stop7 folder sound text lat lon family level up right rest s h.0) h.1
       ]
@@ -339,7 +339,7 @@ module _ (folder : Option Folder) (sound : IsSound folder) (whole text : Text) w
       ]
 
 -- the name of a tile in the folder is read
-pub name_again : (folder : Option Folder) (sound : IsSound folder) (whole : Text) (x : InFolder folder) → name_at folder whole (name x.tile) ≡ Ok (spelled x.tile)
+pub name_again : (folder : Option Folder) (sound : IsSound folder) (whole : Text) (x : InFolder folder) → name_at folder whole (name x.tile) ≡ Ok (spelled_tile x.tile)
 unfolding name_at
 name_again folder sound whole x =
     let fs = fields_in x in

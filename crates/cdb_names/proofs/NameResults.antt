@@ -4,7 +4,7 @@ use Rattle.std.specs.Prelude.{codes, IfOk, IfErr}
 use Rattle.cdb_grid.specs.declared.tile.Tile.{Tile}
 use Rattle.cdb_model.specs.declared.name_error.NameError.{NameError}
 use Rattle.cdb_model.specs.Names.{Text, lat_text, lon_text, dataset_text, level_text, up_text, right_text, name_fields, name, spell, FirstWrong}
-use Rattle.cdb_names.specs.Reading.{name_at, Spelled, spelled, Gives}
+use Rattle.cdb_names.specs.Reading.{name_at, Spelled, spelled_tile, IsReadAs}
 use Rattle.cdb_names.proofs.FolderLaws.{InFolder}
 use Rattle.cdb_names.specs.Places.{OneWrongPlaceOfNames, NamesHaveNoWrongPlace}
 use Rattle.cdb_names.proofs.Settled.{AreFields, Settles, one_rest, never_stops}
@@ -15,7 +15,7 @@ use Rattle.cdb_names.proofs.SameTile.{same_tile}
 abbrev name_of : Spelled → Text
 name_of s = spell (lat_text s.lat ∷ lon_text s.lon ∷ dataset_text s.family ∷ level_text s.level ∷ up_text s.up ∷ right_text s.right ∷ codes ".tif" ∷ []) []
 
-pub same_name : (a b : Tile) → spelled a ≡ spelled b → name a ≡ name b
+pub same_name : (a b : Tile) → spelled_tile a ≡ spelled_tile b → name a ≡ name b
 same_name a b e = ap name_of e
 
 -- fields in front make a text no shorter
@@ -31,23 +31,23 @@ begins_at text rest fs e = omega (arith, spell_longer fs rest, ap length e)
 unfoldable pub anywhere : Tile → InFolder None
 anywhere t = record { tile = t; lat = refl; lon = refl; dataset = refl; level = refl; up = refl }
 
-pub name_found : (text : Text) (r : Result Tile NameError) → Gives spelled r (name_at None text text) → IfOk r (λ t. text ≡ name t)
-name_found text (Ok t) e = let s = name_says None tt text text (Ok (spelled t)) e in s.2 ∙ same_name s.0.tile t s.1
+pub name_found : (text : Text) (r : Result Tile NameError) → IsReadAs spelled_tile r (name_at None text text) → IfOk r (λ t. text ≡ name t)
+name_found text (Ok t) e = let s = name_says None tt text text (Ok (spelled_tile t)) e in s.2 ∙ same_name s.0.tile t s.1
 name_found text (Err e) h = tt
 
-pub name_only : (text : Text) (r : Result Tile NameError) → Gives spelled r (name_at None text text) → (t : Tile) → text ≡ name t → r ≡ Ok t
+pub name_only : (text : Text) (r : Result Tile NameError) → IsReadAs spelled_tile r (name_at None text text) → (t : Tile) → text ≡ name t → r ≡ Ok t
 unfolding anywhere
 name_only text (Ok found) e t is =
-    let again : name_at None text text ≡ Ok (spelled t) = ap (λ (x : Text). name_at None text x) is ∙ name_again None tt text (anywhere t) in
-    let k : ◌≡◌ {A = Result Spelled NameError} (Ok (spelled found)) (Ok (spelled t)) = sym e ∙ again in
-    let s : spelled found ≡ spelled t = ok_is (spelled found) (spelled t) k in
+    let again : name_at None text text ≡ Ok (spelled_tile t) = ap (λ (x : Text). name_at None text x) is ∙ name_again None tt text (anywhere t) in
+    let k : ◌≡◌ {A = Result Spelled NameError} (Ok (spelled_tile found)) (Ok (spelled_tile t)) = sym e ∙ again in
+    let s : spelled_tile found ≡ spelled_tile t = ok_is (spelled_tile found) (spelled_tile t) k in
     ap Ok (same_tile found t s)
   where
     ok_is : (a b : Spelled) → ◌≡◌ {A = Result Spelled NameError} (Ok a) (Ok b) → a ≡ b
     ok_is a b h = cc
 name_only text (Err wrong) e t is =
-    let again : name_at None text text ≡ Ok (spelled t) = ap (λ (x : Text). name_at None text x) is ∙ name_again None tt text (anywhere t) in
-    let k : ◌≡◌ {A = Result Spelled NameError} (Err wrong) (Ok (spelled t)) = sym e ∙ again in
+    let again : name_at None text text ≡ Ok (spelled_tile t) = ap (λ (x : Text). name_at None text x) is ∙ name_again None tt text (anywhere t) in
+    let k : ◌≡◌ {A = Result Spelled NameError} (Err wrong) (Ok (spelled_tile t)) = sym e ∙ again in
     absurd cc
 
 -- where a text stops among the tiles in no folder, it stops among all
@@ -58,7 +58,7 @@ anywhere_settles text rest s = record {
   one = λ x after b. s.one (anywhere x) after b;
 }
 
-pub name_wrong : (text : Text) (r : Result Tile NameError) → Gives spelled r (name_at None text text) → IfErr r (λ e. FirstWrong name_fields text e.place)
+pub name_wrong : (text : Text) (r : Result Tile NameError) → IsReadAs spelled_tile r (name_at None text text) → IfErr r (λ e. FirstWrong name_fields text e.place)
 name_wrong text (Ok t) e = tt
 name_wrong text (Err wrong) e =
     let s = name_says None tt text text (Err wrong) e in

@@ -17,7 +17,7 @@ use Rattle.std.proofs.lemmas.Str.Parse.{IsNumeralModel, numerals_by_value, tells
 use Rattle.cdb_grid.specs.Units.{height_of}
 use Rattle.cdb_grid.specs.declared.tile.Tile.{Tile}
 use Rattle.cdb_model.specs.Names.{Text, begins_with_digit}
-use Rattle.cdb_names.specs.Fields.{digits_len, number_of, number_at}
+use Rattle.cdb_names.specs.Fields.{digits_len, bounded_number, bounded_number_at}
 use Rattle.cdb_names.proofs.Tools.{both, some_if, map_some, pair_is}
 
 pub own : IsNumeralModel (λ ds. all_ascii_digits ds ≡ true) (digits_value 10)
@@ -42,7 +42,7 @@ all_front (c ∷ text) = by (all_front text) (is_ascii_digit c) refl
     by rest false e = refl
 
 -- the tests of number_of, and its value
-pub number_value : (limit : ℕ) (ds : Text) (n : ℕ) → all_ascii_digits ds ≡ true → limit ≤ 2 ^ 32 → number_of limit ds ≡ Some n → (ds ≡ decimal n) × (n < limit)
+pub number_value : (limit : ℕ) (ds : Text) (n : ℕ) → all_ascii_digits ds ≡ true → limit ≤ 2 ^ 32 → bounded_number limit ds ≡ Some n → (ds ≡ decimal n) × (n < limit)
 number_value limit ds n digits small e =
     let g = some_if (nat_lt 0 (length ds) && (((length ds == 1) || not (slice_index ds 0 == 48)) && nat_lt (digits_value 10 ds) limit)) (digits_value 10 ds) n e in
     let t = both (nat_lt 0 (length ds)) (((length ds == 1) || not (slice_index ds 0 == 48)) && nat_lt (digits_value 10 ds) limit) g.0 in
@@ -56,10 +56,10 @@ number_value limit ds n digits small e =
     one_digit k first z h = grind (arith, nat_tests)
 
 -- a number that was read, spelled again
-pub number_takes : (limit : ℕ) (text : Text) (n : ℕ) (rest : Text) → limit ≤ 2 ^ 32 → number_at limit text ≡ Some (n, rest) → (n < limit) × (text ≡ decimal n ++ rest) × (begins_with_digit rest ≡ false)
-unfolding number_at
+pub number_takes : (limit : ℕ) (text : Text) (n : ℕ) (rest : Text) → limit ≤ 2 ^ 32 → bounded_number_at limit text ≡ Some (n, rest) → (n < limit) × (text ≡ decimal n ++ rest) × (begins_with_digit rest ≡ false)
+unfolding bounded_number_at
 number_takes limit text n rest small e =
-    let m = map_some (number_of limit (take (digits_len text) text)) (λ n. (n, drop (digits_len text) text)) (n, rest) e in
+    let m = map_some (bounded_number limit (take (digits_len text) text)) (λ n. (n, drop (digits_len text) text)) (n, rest) e in
     let p = pair_is m.0 n (drop (digits_len text) text) rest m.2 in
     let v = number_value limit (take (digits_len text) text) m.0 (all_front text) small m.1 in
     let split = sym (take-append-drop (digits_len text) text) in
@@ -67,7 +67,7 @@ number_takes limit text n rest small e =
     (subst (λ (k : ℕ). k < limit) p.0 v.1, subst (λ (k : ℕ). text ≡ decimal k ++ rest) p.0 (subst (λ (r : Text). text ≡ decimal m.0 ++ r) p.1 whole), subst (λ (r : Text). begins_with_digit r ≡ false) p.1 (rest_begins text))
 
 -- a number below ten millions has at most seven digits
-pub near_value : (limit : ℕ) (text : Text) (n : ℕ) → limit ≤ 10 ^ 7 → number_of limit (take (digits_len text) text) ≡ Some n → length text ≤ length (drop (digits_len text) text) + 7
+pub near_value : (limit : ℕ) (text : Text) (n : ℕ) → limit ≤ 10 ^ 7 → bounded_number limit (take (digits_len text) text) ≡ Some n → length text ≤ length (drop (digits_len text) text) + 7
 near_value limit text n small e =
     let ds = take (digits_len text) text in
     let rest = drop (digits_len text) text in
@@ -83,7 +83,7 @@ digits_len-append (d ∷ ds) rest h e =
     let t = both (is_ascii_digit d) (all_ascii_digits ds) h in
     rw t.0 (omega (arith, digits_len-append ds rest t.1 e))
 
-number_again_value : (limit n : ℕ) → n < limit → limit ≤ 2 ^ 32 → number_of limit (decimal n) ≡ Some n
+number_again_value : (limit n : ℕ) → n < limit → limit ≤ 2 ^ 32 → bounded_number limit (decimal n) ≡ Some n
 number_again_value limit n lt small =
     let v : digits_value 10 (decimal n) ≡ n = digits_value-decimal own n (omega arith) in
     let a : nat_lt 0 (length (decimal n)) ≡ true = lt-ltb 0 (length (decimal n)) (decimal_nonempty n (omega arith)) in
@@ -98,8 +98,8 @@ number_again_value limit n lt small =
         by k first h = grind (arith, nat_tests)
 
 -- a spelled number, read again
-pub number_again : (limit n : ℕ) (rest : Text) → n < limit → limit ≤ 2 ^ 32 → begins_with_digit rest ≡ false → number_at limit (decimal n ++ rest) ≡ Some (n, rest)
-unfolding number_at
+pub number_again : (limit n : ℕ) (rest : Text) → n < limit → limit ≤ 2 ^ 32 → begins_with_digit rest ≡ false → bounded_number_at limit (decimal n ++ rest) ≡ Some (n, rest)
+unfolding bounded_number_at
 number_again limit n rest lt small e =
     let ds : all_ascii_digits (decimal n) ≡ true = digits_decimal own n (omega arith) in
     let k = digits_len-append (decimal n) rest ds e in

@@ -16,7 +16,7 @@ use Rattle.cdb_names.specs.declared.folder.DatasetFolder.TheVariants.{Elevation,
 use Rattle.cdb_names.specs.declared.folder.LevelFolder.{LevelFolder}
 use Rattle.cdb_names.specs.declared.folder.LevelFolder.TheVariants.{BelowZero, At}
 use Rattle.cdb_names.specs.Fields.{after, across, version_folder_at, lat_folder_at, lon_folder_at, dataset_folder_at, level_folder_at, up_folder_at}
-use Rattle.cdb_names.specs.Reading.{◌>>=◌, wrong_at, has_lat, has_lon, has_dataset, has_level, has_up, same_dataset, same_level, dataset_folder_of, level_folder_of, folders_at, name_at, path_at, Spelled, spelled, Gives}
+use Rattle.cdb_names.specs.Reading.{◌>>=◌, wrong_at, has_lat, has_lon, has_dataset, has_level, has_up, same_dataset, same_level, dataset_folder_of, level_folder_of, folders_at, name_at, path_at, Spelled, spelled_tile, IsReadAs}
 use Rattle.cdb_names.proofs.FieldLaws.{IsLevel, after_again}
 use Rattle.cdb_names.proofs.FolderLaws.{InFolder, IsFolder, some_level}
 use Rattle.cdb_names.proofs.NameLaws.{step, fields_in, name_says, name_again}
@@ -217,7 +217,7 @@ bound (Err x) f r e = inl (x, refl, e)
 
 -- what reading a path says: the version and the tile that the text spells, or where it stops
 abbrev pub Says : Text → Result (ℕ × Spelled) NameError → Type 0
-Says text (Ok p) = (x : VersionTile) × (x.version ≡ p.0) × (spelled x.tile ≡ p.1) × (text ≡ path x.version x.tile)
+Says text (Ok p) = (x : VersionTile) × (x.version ≡ p.0) × (spelled_tile x.tile ≡ p.1) × (text ≡ path x.version x.tile)
 Says text (Err e) = (rest : Text) × Stops text rest × (wrong_at text rest ≡ e)
 
 module _ (text : Text) (version : ℕ) (end : Text) (v : VersionTile) (version_is : v.version ≡ version) (begins : BeginsWith (path_fields v) text 7 end)
@@ -274,7 +274,7 @@ unfolding path_at
 name_in_path text version f end s a b = rw (a, b) refl
 
 -- the path of a version and a tile is read
-path_again : (x : VersionTile) → path_at (path x.version x.tile) ≡ Ok (x.version, spelled x.tile)
+path_again : (x : VersionTile) → path_at (path x.version x.tile) ≡ Ok (x.version, spelled_tile x.tile)
 unfolding in_folder
 path_again x =
     let t = x.tile in
@@ -282,46 +282,46 @@ path_again x =
     let text = path x.version x.tile in
     let folders = folders_again text x.version (spell (drop 1 fs) []) (spell (drop 2 fs) []) t.cell.lat (spell (drop 3 fs) []) t.cell.lon (spell (drop 4 fs) []) (dataset_folder_of t.family) (spell (drop 5 fs) []) (level_for_folder t.level.number) (spell (drop 6 fs) []) t.up (name t)
     (version_reads x (spell (drop 1 fs) [])) (after_again (codes "Tiles/") (spell (drop 2 fs) [])) (lat_reads t (spell (drop 3 fs) [])) (lon_reads t (spell (drop 4 fs) [])) (dataset_folder_again t.family (spell (drop 5 fs) [])) (level_reads t (spell (drop 6 fs) [])) (up_reads t (name t)) in
-    name_in_path text x.version (folder_of t) (name t) (spelled t) folders (name_again (Some (folder_of t)) (is_folder t) text (in_folder t (folder_of t) refl))
+    name_in_path text x.version (folder_of t) (name t) (spelled_tile t) folders (name_again (Some (folder_of t)) (is_folder t) text (in_folder t (folder_of t) refl))
 
 -- ---- by tiles
 
 -- a version and a tile as the numbers of their path
 abbrev pub spelled_path : ℕ × Tile → ℕ × Spelled
-spelled_path p = (p.0, spelled p.1)
+spelled_path p = (p.0, spelled_tile p.1)
 
-pub path_versions : (text : Text) (r : Result (ℕ × Tile) NameError) → Gives spelled_path r (path_at text) → IfOk r (λ p. (1 ≤ p.0) × (p.0 ≤ 4096))
+pub path_versions : (text : Text) (r : Result (ℕ × Tile) NameError) → IsReadAs spelled_path r (path_at text) → IfOk r (λ p. (1 ≤ p.0) × (p.0 ≤ 4096))
 path_versions text (Ok p) e =
-    let s = path_says text (Ok (p.0, spelled p.1)) e in
+    let s = path_says text (Ok (p.0, spelled_tile p.1)) e in
     (subst (λ (k : ℕ). 1 ≤ k) s.1 s.0.from_one, subst (λ (k : ℕ). k ≤ 4096) s.1 s.0.to_last)
 path_versions text (Err e) h = tt
 
-pub path_found : (text : Text) (r : Result (ℕ × Tile) NameError) → Gives spelled_path r (path_at text) → IfOk r (λ p. text ≡ path p.0 p.1)
+pub path_found : (text : Text) (r : Result (ℕ × Tile) NameError) → IsReadAs spelled_path r (path_at text) → IfOk r (λ p. text ≡ path p.0 p.1)
 path_found text (Ok p) e =
-    let s = path_says text (Ok (p.0, spelled p.1)) e in
+    let s = path_says text (Ok (p.0, spelled_tile p.1)) e in
     s.3 ∙ ap (λ (k : ℕ). path k s.0.tile) s.1 ∙ ap (path p.0) (same_tile s.0.tile p.1 s.2)
 path_found text (Err e) h = tt
 
-pub path_only : (text : Text) (r : Result (ℕ × Tile) NameError) → Gives spelled_path r (path_at text) → (version : ℕ) (t : Tile) → 1 ≤ version → version ≤ 4096 → text ≡ path version t → r ≡ Ok (version, t)
+pub path_only : (text : Text) (r : Result (ℕ × Tile) NameError) → IsReadAs spelled_path r (path_at text) → (version : ℕ) (t : Tile) → 1 ≤ version → version ≤ 4096 → text ≡ path version t → r ≡ Ok (version, t)
 path_only text r e version t first last is = by r e
   where
-    again : path_at text ≡ Ok (version, spelled t)
+    again : path_at text ≡ Ok (version, spelled_tile t)
     again = ap path_at is ∙ path_again (record { version = version; tile = t; from_one = first; to_last = last })
 
     ok_is : (a b : ℕ × Spelled) → ◌≡◌ {A = Result (ℕ × Spelled) NameError} (Ok a) (Ok b) → a ≡ b
     ok_is a b h = cc
 
-    by : (r : Result (ℕ × Tile) NameError) → Gives spelled_path r (path_at text) → r ≡ Ok (version, t)
+    by : (r : Result (ℕ × Tile) NameError) → IsReadAs spelled_path r (path_at text) → r ≡ Ok (version, t)
     by (Ok p) e =
-        let s = ok_is (p.0, spelled p.1) (version, spelled t) (sym e ∙ again) in
+        let s = ok_is (p.0, spelled_tile p.1) (version, spelled_tile t) (sym e ∙ again) in
         let k : p.0 ≡ version = ap (λ (q : ℕ × Spelled). q.0) s in
         let l : p.1 ≡ t = same_tile p.1 t (ap (λ (q : ℕ × Spelled). q.1) s) in
         let a : ◌≡◌ {A = ℕ × Tile} (p.0, p.1) (version, p.1) = ap (λ (n : ℕ). (n, p.1)) k in
         let b : ◌≡◌ {A = ℕ × Tile} (version, p.1) (version, t) = ap (λ (u : Tile). (version, u)) l in
         ap Ok (a ∙ b)
-    by (Err w) e = let k : ◌≡◌ {A = Result (ℕ × Spelled) NameError} (Err w) (Ok (version, spelled t)) = sym e ∙ again in absurd cc
+    by (Err w) e = let k : ◌≡◌ {A = Result (ℕ × Spelled) NameError} (Err w) (Ok (version, spelled_tile t)) = sym e ∙ again in absurd cc
 
-pub path_wrong : (text : Text) (r : Result (ℕ × Tile) NameError) → Gives spelled_path r (path_at text) → IfErr r (λ e. FirstWrong path_fields text e.place)
+pub path_wrong : (text : Text) (r : Result (ℕ × Tile) NameError) → IsReadAs spelled_path r (path_at text) → IfErr r (λ e. FirstWrong path_fields text e.place)
 path_wrong text (Ok p) e = tt
 path_wrong text (Err w) e =
     let s = path_says text (Err w) e in

@@ -106,18 +106,18 @@ abbrev pub digits_len : Text → ℕ
 digits_len text = prefix_len is_ascii_digit text
 
 -- digits without a leading zero, as a number below the limit
-abbrev pub number_of : ℕ → Text → Option ℕ
-number_of limit ds =
+abbrev pub bounded_number : ℕ → Text → Option ℕ
+bounded_number limit ds =
     if nat_lt 0 (length ds) && (((length ds == 1) || not (slice_index ds 0 == 48)) && nat_lt (digits_value 10 ds) limit)
     then Some (digits_value 10 ds) else None
 
 -- a number below the limit, of all digits that follow
-unfoldable pub number_at : ℕ → Text → Option (ℕ × Text)
-number_at limit text = option_map (λ n. (n, drop (digits_len text) text)) (number_of limit (take (digits_len text) text))
+unfoldable pub bounded_number_at : ℕ → Text → Option (ℕ × Text)
+bounded_number_at limit text = option_map (λ n. (n, drop (digits_len text) text)) (bounded_number limit (take (digits_len text) text))
 
 -- a number below the limit behind a prefix
 unfoldable pub numbered_at : Text → ℕ → Text → Option (ℕ × Text)
-numbered_at prefix limit text = option_and_then (λ rest. number_at limit rest) (after prefix text)
+numbered_at prefix limit text = option_and_then (λ rest. bounded_number_at limit rest) (after prefix text)
 
 -- ---- the fields of a path
 

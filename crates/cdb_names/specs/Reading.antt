@@ -24,9 +24,9 @@ abbrev pub wrong_at : Text → Text → NameError
 wrong_at text rest = record { place = length text - length rest }
 
 -- a field that was read, or the place where it begins
-abbrev pub field : {X : Type 0} → Text → Text → Option X → Result X NameError
-field text rest None = Err (wrong_at text rest)
-field text rest (Some x) = Ok x
+abbrev pub field_or_place : {X : Type 0} → Text → Text → Option X → Result X NameError
+field_or_place text rest None = Err (wrong_at text rest)
+field_or_place text rest (Some x) = Ok x
 
 -- the folder of a family's dataset, and of a level
 abbrev pub dataset_folder_of : Family → DatasetFolder
@@ -72,25 +72,25 @@ has_up None up = true
 has_up (Some f) up = f.up == up
 
 -- a value that was read, where it passes a test
-abbrev pub kept : {X : Type 0} → (X → Bool) → Option (X × Text) → Option (X × Text)
-kept test None = None
-kept test (Some p) = if test p.0 then Some p else None
+abbrev pub passing : {X : Type 0} → (X → Bool) → Option (X × Text) → Option (X × Text)
+passing test None = None
+passing test (Some p) = if test p.0 then Some p else None
 
 -- the fields of a tile in the folder
 unfoldable pub lat_in : Option Folder → Text → Option (ℤ × Text)
-lat_in folder text = kept (has_lat folder) (lat_at text)
+lat_in folder text = passing (has_lat folder) (lat_at text)
 
 unfoldable pub lon_in : Option Folder → ℤ → Text → Option (ℤ × Text)
-lon_in folder lat text = kept (has_lon folder) (lon_at lat text)
+lon_in folder lat text = passing (has_lon folder) (lon_at lat text)
 
 unfoldable pub family_in : Option Folder → Text → Option (Family × Text)
-family_in folder text = kept (has_dataset folder) (family_at text)
+family_in folder text = passing (has_dataset folder) (family_at text)
 
 unfoldable pub level_in : Option Folder → Text → Option (ℤ × Text)
-level_in folder text = kept (has_level folder) (level_at text)
+level_in folder text = passing (has_level folder) (level_at text)
 
 unfoldable pub up_in : Option Folder → ℕ → Text → Option (ℕ × Text)
-up_in folder limit text = kept (has_up folder) (numbered_at (codes "_U") limit text)
+up_in folder limit text = passing (has_up folder) (numbered_at (codes "_U") limit text)
 
 -- a tile as the numbers of its name
 pub record Spelled : Type 0 where
@@ -101,35 +101,35 @@ pub record Spelled : Type 0 where
   pub up : ℕ
   pub right : ℕ
 
-abbrev pub spelled : Tile → Spelled
-spelled t = record { family = t.family; lat = t.cell.lat; lon = t.cell.lon; level = t.level.number; up = t.up; right = t.right }
+abbrev pub spelled_tile : Tile → Spelled
+spelled_tile t = record { family = t.family; lat = t.cell.lat; lon = t.cell.lon; level = t.level.number; up = t.up; right = t.right }
 
 -- the tile in the folder whose file name is this end of a text, or the place of the first wrong field in the text
 unfoldable pub name_at : Option Folder → Text → Text → Result Spelled NameError
 name_at folder text end = do
-  lat ← field text end (lat_in folder end)
-  lon ← field text lat.1 (lon_in folder lat.0 lat.1)
-  family ← field text lon.1 (family_in folder lon.1)
-  level ← field text family.1 (level_in folder family.1)
-  up ← field text level.1 (up_in folder (across level.0) level.1)
-  right ← field text up.1 (numbered_at (codes "_R") (across level.0) up.1)
+  lat ← field_or_place text end (lat_in folder end)
+  lon ← field_or_place text lat.1 (lon_in folder lat.0 lat.1)
+  family ← field_or_place text lon.1 (family_in folder lon.1)
+  level ← field_or_place text family.1 (level_in folder family.1)
+  up ← field_or_place text level.1 (up_in folder (across level.0) level.1)
+  right ← field_or_place text up.1 (numbered_at (codes "_R") (across level.0) up.1)
   if bytes_eq right.1 (codes ".tif") then Ok (record { family = family.0; lat = lat.0; lon = lon.0; level = level.0; up = up.0; right = right.0 }) else Err (wrong_at text right.1)
 
 -- what was returned is what reading gives, as numbers
-abbrev pub Gives : {X Y : Type 0} → (X → Y) → Result X NameError → Result Y NameError → Type 0
-Gives view (Ok x) read = read ≡ Ok (view x)
-Gives view (Err e) read = read ≡ Err e
+abbrev pub IsReadAs : {X Y : Type 0} → (X → Y) → Result X NameError → Result Y NameError → Type 0
+IsReadAs view (Ok x) read = read ≡ Ok (view x)
+IsReadAs view (Err e) read = read ≡ Err e
 
 -- the version, what the folders say of the tile, and the file name, or the place of the first wrong folder
 unfoldable pub folders_at : Text → Result (ℕ × Folder × Text) NameError
 folders_at text = do
-  version ← field text text (version_folder_at text)
-  tiles ← field text version.1 (after (codes "Tiles/") version.1)
-  lat ← field text tiles (lat_folder_at tiles)
-  lon ← field text lat.1 (lon_folder_at lat.0 lat.1)
-  dataset ← field text lon.1 (dataset_folder_at lon.1)
-  level ← field text dataset.1 (level_folder_at dataset.1)
-  up ← field text level.1 (up_folder_at (across level.0) level.1)
+  version ← field_or_place text text (version_folder_at text)
+  tiles ← field_or_place text version.1 (after (codes "Tiles/") version.1)
+  lat ← field_or_place text tiles (lat_folder_at tiles)
+  lon ← field_or_place text lat.1 (lon_folder_at lat.0 lat.1)
+  dataset ← field_or_place text lon.1 (dataset_folder_at lon.1)
+  level ← field_or_place text dataset.1 (level_folder_at dataset.1)
+  up ← field_or_place text level.1 (up_folder_at (across level.0) level.1)
   Ok (version.0, record { lat = lat.0; lon = lon.0; dataset = dataset.0; level = level_folder_of level.0; up = up.0 }, up.1)
 
 -- the version and the tile whose path the text is, or the place of the first wrong field

@@ -2,7 +2,7 @@
 ghost use Rattle.std.specs.Prelude.{◌≡◌, ◌+◌, ◌<◌, ◌≤◌, ◌^◌, length, option_map, IfSome, SomeIff, true};
 ghost use Rattle.std.specs.Str.{all_ascii_digits};
 ghost use Rattle.std.specs.Str.Parse.{digits_value};
-ghost use Rattle.cdb_names.specs.Fields.{two_of, two_at, three_at, number_of, number_at, digits_len};
+ghost use Rattle.cdb_names.specs.Fields.{two_of, two_at, three_at, bounded_number, bounded_number_at, digits_len};
 
 fn two_digits(a: u8, b: u8) -> Option<u8>
     ensures value { result ≡ two_of a b }
@@ -63,7 +63,7 @@ fn value(digits: &[u8]) -> Option<u32>
 /// The number below the limit that these digits write, without a leading zero.
 fn number(limit: u32, digits: &[u8]) -> Option<u32>
     requires { all_ascii_digits digits.now ≡ true }
-    ensures { result ≡ number_of limit digits.now }
+    ensures { result ≡ bounded_number limit digits.now }
 {
     if digits.is_empty() || (digits.len() > 1 && digits[0] == b'0') {
         return None;
@@ -76,9 +76,9 @@ fn number(limit: u32, digits: &[u8]) -> Option<u32>
 }
 
 /// The number below the limit that the text begins with, and what follows all its digits.
-#[tactic(auto, unfolding(crate::specs::Fields::number_at))]
+#[tactic(auto, unfolding(crate::specs::Fields::bounded_number_at))]
 pub fn read_number(limit: u32, text: &[u8]) -> Option<(u32, &[u8])>
-    ensures read { option_map (λ p. (p.0, p.1.now)) result ≡ number_at limit text.now }
+    ensures read { option_map (λ p. (p.0, p.1.now)) result ≡ bounded_number_at limit text.now }
     ensures near { limit ≤ 10 ^ 7 → IfSome result (λ p. length text.now ≤ length p.1.now + 7) }
     ensures small { IfSome result (λ p. p.0 < limit) }
     ensures shorter { IfSome result (λ p. length p.1.now ≤ length text.now) }

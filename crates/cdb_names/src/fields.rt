@@ -17,7 +17,7 @@ pub fn read_after<'a>(prefix: &[u8], text: &'a [u8]) -> Option<&'a [u8]>
     Some(rest)
 }
 
-fn negated(n: u8) -> i8
+fn negate(n: u8) -> i8
     requires { n ≤ 127 }
     ensures { result ≡ neg_ℤ (pos n) }
 {
@@ -39,7 +39,7 @@ fn latitude(letter: u8, degrees: u8) -> Option<i8>
     if letter == b'N' && degrees < 90 {
         Some(degrees as i8)
     } else if letter == b'S' && 0 < degrees && degrees <= 90 {
-        Some(negated(degrees))
+        Some(negate(degrees))
     } else {
         None
     }
@@ -141,7 +141,7 @@ fn read_coarse(text: &[u8]) -> Option<(Level, &[u8])>
     if n == 0 || n > 10 {
         return None;
     }
-    let level = Level { number: negated(n) };
+    let level = Level { number: negate(n) };
     Some((level, rest))
 }
 

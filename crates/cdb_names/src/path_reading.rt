@@ -3,7 +3,7 @@ ghost use Rattle.std.specs.Prelude.{◌≡◌, ℕ, ◌+◌, ◌<◌, ◌≤◌,
 ghost use Rattle.cdb_grid.specs.declared.tile.Tile.{Tile};
 ghost use Rattle.cdb_model.specs.Names.{path, path_fields, FirstWrong};
 ghost use Rattle.cdb_names.specs.Fields.{after, four_at, version_of, version_at, version_folder_at, lat_folder_at, lon_folder_at, dataset_folder_at, fine_folder_at, level_folder_at, up_folder_at, across};
-ghost use Rattle.cdb_names.specs.Reading.{folders_at, path_at, spelled, Gives};
+ghost use Rattle.cdb_names.specs.Reading.{folders_at, path_at, spelled_tile, IsReadAs};
 
 use crate::digits::read_two;
 use crate::fields::{read_after, read_latitude, read_longitude, read_numbered};
@@ -153,7 +153,7 @@ fn read_row_folder(level: Level, text: &[u8]) -> Option<(u32, &[u8])>
 /// The version, what the folders say of the tile, and the file name.
 #[tactic(auto, unfolding(crate::specs::Reading::folders_at))]
 fn read_folders(text: &[u8]) -> Result<(u32, Folder, &[u8]), NameError>
-    ensures read { Gives (λ p. (p.0, p.1, p.2.now)) result (folders_at text.now) }
+    ensures read { IsReadAs (λ p. (p.0, p.1, p.2.now)) result (folders_at text.now) }
     ensures near { IfOk result (λ p. length text.now ≤ length p.2.now + 100) }
     ensures shorter { IfOk result (λ p. length p.2.now ≤ length text.now) }
 {
@@ -176,7 +176,7 @@ fn read_folders(text: &[u8]) -> Result<(u32, Folder, &[u8]), NameError>
 
 #[tactic(auto, unfolding(crate::specs::Reading::path_at))]
 fn read_whole_path(text: &[u8]) -> Result<(u32, Tile), NameError>
-    ensures { Gives (λ p. (p.0, spelled p.1)) result (path_at text.now) }
+    ensures { IsReadAs (λ p. (p.0, spelled_tile p.1)) result (path_at text.now) }
 {
     let (version, folder, name) = read_folders(text)?;
     let tile = read_name_in(Some(folder), text, name)?;

@@ -3,7 +3,7 @@ ghost use Rattle.std.specs.Prelude.{◌≡◌, ℕ, ◌-◌, ◌+◌, ◌<◌, �
 ghost use Rattle.cdb_grid.specs.declared.tile.Tile.{Tile};
 ghost use Rattle.cdb_model.specs.Names.{Text, name, name_fields, FirstWrong};
 ghost use Rattle.cdb_names.specs.Fields.{across, numbered_at};
-ghost use Rattle.cdb_names.specs.Reading.{field, wrong_at, lat_in, lon_in, family_in, level_in, up_in, name_at, spelled, Gives};
+ghost use Rattle.cdb_names.specs.Reading.{field_or_place, wrong_at, lat_in, lon_in, family_in, level_in, up_in, name_at, spelled_tile, IsReadAs};
 
 use crate::fields::{read_family, read_latitude, read_level, read_longitude, read_numbered};
 use crate::folder::{Folder, has_family, has_latitude, has_level, has_longitude, has_row};
@@ -25,7 +25,7 @@ pub fn wrong(text: &[u8], rest: &[u8]) -> NameError
 pub fn field_of<X: Drop>(text: &[u8], rest: &[u8], read: Option<X>) -> Result<X, NameError>
     requires within { length rest.now ≤ length text.now }
     requires near { length text.now ≤ length rest.now + 200 }
-    ensures { result ≡ field text.now rest.now read }
+    ensures { result ≡ field_or_place text.now rest.now read }
 {
     match read {
         Some(x) => Ok(x),
@@ -115,7 +115,7 @@ fn column_at(level: Level, text: &[u8]) -> Option<(u32, &[u8])>
 pub fn read_name_in(folder: Option<Folder>, text: &[u8], end: &[u8]) -> Result<Tile, NameError>
     requires within { length end.now ≤ length text.now }
     requires near { length text.now ≤ length end.now + 100 }
-    ensures { Gives spelled result (name_at folder text.now end.now) }
+    ensures { IsReadAs spelled_tile result (name_at folder text.now end.now) }
 {
     let (lat, rest) = field_of(text, end, latitude_in(folder, end))?;
     let (cell, rest) = field_of(text, rest, longitude_in(folder, lat, rest))?;

@@ -1,4 +1,4 @@
-use crate::listing::{Key, joined, key_of, least_after};
+use crate::listing::{Key, join, key_of, least_after};
 use cdb_files::{Path, folder_above};
 use std::io;
 use std::io::ErrorKind;
@@ -30,10 +30,10 @@ pub fn first_under<R: Files>(
     for _ in 0..u64::MAX {
         let key = least_after(rt, root, &at, &after)?;
         if let Some(name) = key.as_str().strip_suffix('/') {
-            at = joined(&at, name)?;
+            at = join(&at, name)?;
             after = Key::new();
         } else if !key.is_empty() {
-            return Ok(Some(joined(&at, key.as_str())?));
+            return Ok(Some(join(&at, key.as_str())?));
         } else if at == *folder {
             return Ok(None);
         } else {

@@ -16,7 +16,7 @@ fn unfit() -> io::Error {
 }
 
 /// The path of a name in the folder.
-pub fn joined(folder: &Path, name: &str) -> io::Result<Path> {
+pub fn join(folder: &Path, name: &str) -> io::Result<Path> {
     let mut path = *folder;
     if !folder.is_empty() && path.try_push('/').is_err() {
         return Err(unfit());
@@ -68,7 +68,7 @@ fn lessen<R: Files>(
     if is_at_most(least, name) || is_passed(name, after)? {
         return Ok(());
     }
-    let path = joined(folder, name)?;
+    let path = join(folder, name)?;
     let found = symlink_metadata(rt, place(root, path.as_str()).as_str())?;
     let key = key_of(name, found.is_dir())?;
     if key > *after && !is_at_most(least, key.as_str()) {

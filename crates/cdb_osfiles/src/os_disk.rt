@@ -1,7 +1,7 @@
 ghost use Rattle.std.specs.Prelude.{◌≡◌};
 
 use crate::calls;
-use crate::faults::counted;
+use crate::faults::count_fault;
 use crate::first::first_under;
 use crate::folders::{Sure, make_all, sync_folder};
 use crate::last_search::LastSearch;
@@ -75,60 +75,60 @@ impl<R: Files> Disk for OsDisk<R> {
 
     fn size(&mut self, path: &Path) -> Result<Option<u64>, Failed> {
         let place = self.place(path);
-        counted(&mut self.faults, calls::size(&self.rt, place.as_str()))
+        count_fault(&mut self.faults, calls::size(&self.rt, place.as_str()))
     }
 
     fn read_at(&mut self, path: &Path, at: u64, into: &mut [u8]) -> Result<(), Failed> {
         let place = self.place(path);
         let answer = calls::read_at(&self.rt, place.as_str(), at, into);
-        counted(&mut self.faults, answer)
+        count_fault(&mut self.faults, answer)
     }
 
     fn first_under(&mut self, folder: &Path) -> Result<Option<Path>, Failed> {
         let behind = self.last.behind(folder);
         let answer = first_under(&self.rt, &self.root, folder, behind);
-        let found = counted(&mut self.faults, answer)?;
+        let found = count_fault(&mut self.faults, answer)?;
         self.last = LastSearch::of(folder, &found);
         Ok(found)
     }
 
     fn make_dir(&mut self, folder: &Path) -> Result<(), Failed> {
         let answer = make_all(&self.rt, &self.root, folder, &mut self.sure);
-        counted(&mut self.faults, answer)
+        count_fault(&mut self.faults, answer)
     }
 
     fn create(&mut self, path: &Path) -> Result<(), Failed> {
         let place = self.place(path);
         self.last = LastSearch::none();
-        counted(&mut self.faults, calls::create(&self.rt, place.as_str()))
+        count_fault(&mut self.faults, calls::create(&self.rt, place.as_str()))
     }
 
     fn append(&mut self, path: &Path, piece: &[u8]) -> Result<(), Failed> {
         let place = self.place(path);
         let answer = calls::append(&self.rt, place.as_str(), piece);
-        counted(&mut self.faults, answer)
+        count_fault(&mut self.faults, answer)
     }
 
     fn sync_file(&mut self, path: &Path) -> Result<(), Failed> {
         let place = self.place(path);
-        counted(&mut self.faults, calls::sync(&self.rt, place.as_str()))
+        count_fault(&mut self.faults, calls::sync(&self.rt, place.as_str()))
     }
 
     fn sync_dir(&mut self, folder: &Path) -> Result<(), Failed> {
         let answer = sync_folder(&self.rt, &self.root, folder, &mut self.sure);
-        counted(&mut self.faults, answer)
+        count_fault(&mut self.faults, answer)
     }
 
     fn rename(&mut self, from: &Path, to: &Path) -> Result<(), Failed> {
         let (from, to) = (self.place(from), self.place(to));
         self.last = LastSearch::none();
         let answer = fs::rename(&self.rt, from.as_str(), to.as_str());
-        counted(&mut self.faults, answer)
+        count_fault(&mut self.faults, answer)
     }
 
     fn remove(&mut self, path: &Path) -> Result<(), Failed> {
         let place = self.place(path);
-        counted(&mut self.faults, calls::remove(&self.rt, place.as_str()))?;
+        count_fault(&mut self.faults, calls::remove(&self.rt, place.as_str()))?;
         self.last.remove(path);
         Ok(())
     }

@@ -1,7 +1,7 @@
 ghost use Rattle.std.specs.Prelude.{◌≡◌, None};
 
 use crate::calls;
-use crate::faults::counted;
+use crate::faults::count_fault;
 use crate::place::place;
 use cdb_files::{Failed, Path, Shelf};
 use std::rt::Files;
@@ -40,12 +40,12 @@ impl<R: Files> Shelf for OsShelf<R> {
 
     fn size(&mut self, path: &Path) -> Result<Option<u64>, Failed> {
         let place = place(&self.root, path.as_str());
-        counted(&mut self.faults, calls::size(&self.rt, place.as_str()))
+        count_fault(&mut self.faults, calls::size(&self.rt, place.as_str()))
     }
 
     fn read_at(&mut self, path: &Path, at: u64, into: &mut [u8]) -> Result<(), Failed> {
         let place = place(&self.root, path.as_str());
         let answer = calls::read_at(&self.rt, place.as_str(), at, into);
-        counted(&mut self.faults, answer)
+        count_fault(&mut self.faults, answer)
     }
 }

@@ -146,17 +146,17 @@ fn make_call(disk: &mut OsDisk<&HostRuntime>, path: &Path, call: &Call) -> Resul
             Ok(into.as_slice() == *want)
         }
         FirstUnder(want) => is_first(disk, path, want),
-        MakeDir => done(disk.make_dir(path)),
-        Create => done(disk.create(path)),
-        Append(piece) => done(disk.append(path, piece)),
-        SyncFile => done(disk.sync_file(path)),
-        SyncDir => done(disk.sync_dir(path)),
+        MakeDir => is_done(disk.make_dir(path)),
+        Create => is_done(disk.create(path)),
+        Append(piece) => is_done(disk.append(path, piece)),
+        SyncFile => is_done(disk.sync_file(path)),
+        SyncDir => is_done(disk.sync_dir(path)),
         Rename(to) => rename(disk, path, to),
-        Remove => done(disk.remove(path)),
+        Remove => is_done(disk.remove(path)),
     }
 }
 
-fn done(answer: Result<(), Failed>) -> Result<bool, Failed> {
+fn is_done(answer: Result<(), Failed>) -> Result<bool, Failed> {
     answer?;
     Ok(true)
 }
@@ -176,7 +176,7 @@ fn is_first(
 fn rename(disk: &mut OsDisk<&HostRuntime>, from: &Path, to: &str) -> Result<bool, Failed> {
     match Path::from(to) {
         Ok(to) if folder_above(from) == folder_above(&to) && *from != to => {
-            done(disk.rename(from, &to))
+            is_done(disk.rename(from, &to))
         }
         _ => Ok(false),
     }

@@ -1,6 +1,6 @@
 -- A frame that is taken is out, lies in the block, and is none of those that were out.
 use Rattle.std.proofs.Common.{◌≡◌, ◌≢◌, ℕ, zero, suc, Bool, true, false, List, [], ◌∷◌, slice_get, slice_set, Some, refl, sym, ap, ◌∙◌, arith, subst}
-use Rattle.cdb_pool.specs.Frames.{Frames, IsWhole, IsFirstFree, IsReady, with_out}
+use Rattle.cdb_pool.specs.Frames.{Frames, IsWholeBlock, IsFirstFree, IsLent, with_out}
 use Rattle.cdb_pool.specs.Laws.{TakesAnother}
 use Rattle.cdb_pool.proofs.Ranges.{lies}
 
@@ -25,7 +25,7 @@ takes_another p k first = record {
   others = λ j there. (set_other p.out k j true (differs p.out k j first.0 there) ∙ there, differs p.out k j first.0 there);
 }
 
-pub is_ready : {T : Type 0} (p : Frames T) (k : ℕ) → IsWhole p.items p.frame_length p.out → IsFirstFree p k → IsReady (with_out p k true) k p.frame_length
+pub is_ready : {T : Type 0} (p : Frames T) (k : ℕ) → IsWholeBlock p.items p.frame_length p.out → IsFirstFree p k → IsLent (with_out p k true) k p.frame_length
 is_ready p k whole first = record {
   out = set_here p.out k false true first.0;
   within = (lies p.items p.frame_length p.out k whole first.0).within;

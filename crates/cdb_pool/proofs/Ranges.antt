@@ -4,14 +4,14 @@ use Rattle.std.proofs.lemmas.Option.{slice_get_within}
 use Rattle.std.proofs.lemmas.Nat.{row_fits}
 use Rattle.std.proofs.lemmas.Bool.{cases_lt}
 use Rattle.std.proofs.lemmas.List.{length-take-le, take-append-le}
-use Rattle.cdb_pool.specs.Frames.{IsWhole}
+use Rattle.cdb_pool.specs.Frames.{IsWholeBlock}
 
 -- where a frame that is out lies
 pub record Lies {T : Type 0} (items : List T) (frame_length k : ℕ) : Type 0 where
   pub within : k * frame_length + frame_length ≤ length items
   pub small : length items ≤ 2 ^ 28
 
-pub lies : {T : Type 0} (items : List T) (frame_length : ℕ) (out : List Bool) (k : ℕ) {now : Bool} → IsWhole items frame_length out → slice_get out k ≡ Some now → Lies items frame_length k
+pub lies : {T : Type 0} (items : List T) (frame_length : ℕ) (out : List Bool) (k : ℕ) {now : Bool} → IsWholeBlock items frame_length out → slice_get out k ≡ Some now → Lies items frame_length k
 lies items m out k {now = now} whole there =
     let below = slice_get_within out k now there in
     let fits = row_fits k m (length out) m below (omega arith) in

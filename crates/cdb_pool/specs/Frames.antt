@@ -17,7 +17,7 @@ frames_code {T = T} t =
     (λ p. record { items = p.0; frame_length = p.1.0; out = p.1.1 }) (λ _. refl)
 
 -- the block has as many items as its frames together, and not too many
-pub record IsWhole {T : Type 0} (items : List T) (frame_length : ℕ) (out : List Bool) : Type 0 where
+pub record IsWholeBlock {T : Type 0} (items : List T) (frame_length : ℕ) (out : List Bool) : Type 0 where
   pub all : length items ≡ length out * frame_length
   pub some : 1 ≤ frame_length
   pub most : length items ≤ 2 ^ 28
@@ -53,7 +53,7 @@ pub record IsNew {T : Type 0} (clones : T → T → Type 0) (frames frame_length
   pub none_out : p.out ≡ replicate frames false
 
 -- a frame is out, lies in the block, and is at least so long
-pub record IsReady {T : Type 0} (p : Frames T) (k room : ℕ) : Type 0 where
+pub record IsLent {T : Type 0} (p : Frames T) (k room : ℕ) : Type 0 where
   pub out : IsOut p k
   pub within : k * p.frame_length + p.frame_length ≤ length p.items
   pub long : room ≤ p.frame_length

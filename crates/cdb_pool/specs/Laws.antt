@@ -11,8 +11,8 @@ pub record WritesOne {T : Type 0} (old : Frames T) (k : ℕ) (w : List T) (new :
   pub out : new.out ≡ old.out
 
 -- any frame that is out, written through with as many items as it has
-abbrev pub AreApart : {T : Type 0} → Frames T → Type 0
-AreApart {T = T} p = (k : ℕ) (w : List T) → IsOut p k → length w ≡ p.frame_length
+abbrev pub FramesAreApart : {T : Type 0} → Frames T → Type 0
+FramesAreApart {T = T} p = (k : ℕ) (w : List T) → IsOut p k → length w ≡ p.frame_length
     → WritesOne p k w (written p k w)
 
 -- frame k is out in new, and is none of those that were out in old, which are out still

@@ -4,8 +4,8 @@ ghost use Rattle.std.specs.Prelude.{count_by, vec_len, IfOk, IfSome, MatchOption
 ghost use Rattle.std.specs.Borrow.{sem};
 ghost use Rattle.std.specs.List.{position};
 ghost use Rattle.std.specs.Vec.{vec_follows_range};
-ghost use Rattle.cdb_pool.specs.Frames.{contents, IsOut, IsFirstFree, AllOut, IsNew, IsReady, with_out};
-ghost use Rattle.cdb_pool.specs.Laws.{AreApart, TakesOther};
+ghost use Rattle.cdb_pool.specs.Frames.{contents, IsOut, IsFirstFree, AllOut, IsNew, IsLent, with_out};
+ghost use Rattle.cdb_pool.specs.Laws.{FramesAreApart, TakesOther};
 ghost use Rattle.cdb_pool.specs.Lending.{lends_frame};
 ghost use Rattle.cdb_pool.specs.Windows.{lends_part};
 
@@ -25,7 +25,7 @@ pub struct Pool<T: Copy> {
 
 impl<T: Copy> Model for Pool<T> {
     ghost use Rattle.std.specs.Prelude.{◌≡◌, ◌≤◌, ◌*◌, ◌^◌, length};
-    ghost use Rattle.cdb_pool.specs.Frames.{Frames, frames_code, IsWhole};
+    ghost use Rattle.cdb_pool.specs.Frames.{Frames, frames_code, IsWholeBlock};
 
     ghost Value = { Frames T };
 
@@ -33,7 +33,7 @@ impl<T: Copy> Model for Pool<T> {
 
     ghost view = { λ p. record { items = p.block.items; frame_length = p.frame_length; out = p.taken.items } };
 
-    ghost invariant = { λ p. IsWhole p.block.items p.frame_length p.taken.items };
+    ghost invariant = { λ p. IsWholeBlock p.block.items p.frame_length p.taken.items };
 }
 
 /// The number of the first frame that isn't out.
@@ -114,7 +114,7 @@ impl<T: Copy> Pool<T> {
         ensures frame { MatchOption result (AllOut self.old) (λ frame. IsFirstFree self.old frame.number) }
         ensures after { MatchOption result (self.new ≡ self.old)
             (λ frame. self.new ≡ with_out self.old frame.number true) }
-        ensures ready { IfSome result (λ frame. IsReady self.new frame.number self.old.frame_length) }
+        ensures ready { IfSome result (λ frame. IsLent self.new frame.number self.old.frame_length) }
     {
         let Some(number) = first_free(self.taken.as_slice()) else {
             return None;
@@ -173,7 +173,7 @@ impl<T: Copy> Pool<T> {
 
     /// The law of frames: what is written through one of them leaves every other as it was.
     pub fn frames_are_apart(&self)
-        ensures { AreApart self.now }
+        ensures { FramesAreApart self.now }
     {
         let _ = &self.block;
     }

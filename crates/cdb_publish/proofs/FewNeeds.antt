@@ -5,7 +5,7 @@ use Rattle.std.proofs.lemmas.Bool.{cases_lt}
 use Rattle.cdb_grid.specs.Children.{HasOneChild, HasFourChildren}
 use Rattle.cdb_grid.specs.declared.tile.Tile.{Tile}
 use Rattle.cdb_manifest.specs.declared.record_.Record.{Record}
-use Rattle.cdb_cut.specs.FinerTiles.{AreChildren, elevation_of}
+use Rattle.cdb_cut.specs.FinerTiles.{AreChildren, elevation_tile}
 use Rattle.cdb_publish.specs.Needs.{Need}
 use Rattle.cdb_publish.specs.LookUps.{look, look_before, needs_of, child_needs}
 use Rattle.cdb_publish.specs.TileFiles.{own_needs, extreme_needs, family_needs, TileNeeds}
@@ -45,4 +45,4 @@ few_own p kept t children are = omega (
 )
 
 pub few_extreme : (p : Plan) (kept : List Record) (t : Tile) (children : List Tile) → AreChildren t children → length (extreme_needs p kept t children) ≤ 5
-few_extreme p kept t children are = omega (arith, few_children t children are, each_one p kept children, length-append (needs_of (elevation_of t) (Some p.record.version)) (child_needs p kept children))
+few_extreme p kept t children are = omega (arith, few_children t children are, each_one p kept children, length-append (needs_of (elevation_tile t) (Some p.record.version)) (child_needs p kept children))

@@ -10,7 +10,7 @@ use Rattle.cdb_model.specs.Maps.{Text, folder_above}
 use Rattle.cdb_model.specs.Names.{source_path, path}
 use Rattle.cdb_model.proofs.MapLaws.{bytes_eq-same, bytes_eq-other, same_text}
 use Rattle.cdb_crash.specs.Plan.{each_once}
-use Rattle.cdb_publish.specs.Planning.{source_paths, paths_in, once_more}
+use Rattle.cdb_publish.specs.Planning.{source_paths_from, paths_in, once_more}
 
 abbrev among : Text → List Text → Bool
 among y texts = list_any (λ other. bytes_eq other y) texts
@@ -91,22 +91,22 @@ each_once-more (f ∷ xs) y = ap (λ t. f ∷ but f t) (each_once-more xs y) ∙
     of (inr ne) = other ne (among y (each_once xs)) refl
 
 -- ---- the paths, one more
-source_paths-more : (v from k n : ℕ) → n ≡ from + k → source_paths v from (suc k) ≡ source_paths v from k ++ source_path v n ∷ []
+source_paths-more : (v from k n : ℕ) → n ≡ from + k → source_paths_from v from (suc k) ≡ source_paths_from v from k ++ source_path v n ∷ []
 source_paths-more v from zero n is = ap (λ m. source_path v m ∷ []) (omega (arith, is))
 source_paths-more v from (suc k) n is = ap (λ t. source_path v from ∷ t) (source_paths-more v (from + 1) k n (omega (arith, is)))
 
-pub one_source_more : (v k : ℕ) → each_once (map folder_above (source_paths v 1 (k + 1))) ≡ once_more (each_once (map folder_above (source_paths v 1 k))) (folder_above (source_path v (k + 1)))
+pub one_source_more : (v k : ℕ) → each_once (map folder_above (source_paths_from v 1 (k + 1))) ≡ once_more (each_once (map folder_above (source_paths_from v 1 k))) (folder_above (source_path v (k + 1)))
 one_source_more v k =
     let next : k + 1 ≡ suc k = omega arith in
-    ap (λ m. each_once (map folder_above (source_paths v 1 m))) next
+    ap (λ m. each_once (map folder_above (source_paths_from v 1 m))) next
     ∙ ap (λ t. each_once (map folder_above t)) (source_paths-more v 1 k (k + 1) (omega arith))
-    ∙ ap each_once (map-append folder_above (source_paths v 1 k) (source_path v (k + 1) ∷ []))
-    ∙ each_once-more (map folder_above (source_paths v 1 k)) (folder_above (source_path v (k + 1)))
+    ∙ ap each_once (map-append folder_above (source_paths_from v 1 k) (source_path v (k + 1) ∷ []))
+    ∙ each_once-more (map folder_above (source_paths_from v 1 k)) (folder_above (source_path v (k + 1)))
 
 pub one_tile_more : (v n : ℕ) (tiles : List Tile) (t : Tile) → each_once (map folder_above (paths_in v n (tiles ++ t ∷ []))) ≡ once_more (each_once (map folder_above (paths_in v n tiles))) (folder_above (path v t))
 one_tile_more v n tiles t =
-    ap (λ ps. each_once (map folder_above (source_paths v 1 n ++ ps))) (map-append (path v) tiles (t ∷ []))
-    ∙ ap (λ ps. each_once (map folder_above ps)) (sym (append_assoc (source_paths v 1 n) (map (path v) tiles) (path v t ∷ [])))
+    ap (λ ps. each_once (map folder_above (source_paths_from v 1 n ++ ps))) (map-append (path v) tiles (t ∷ []))
+    ∙ ap (λ ps. each_once (map folder_above ps)) (sym (append_assoc (source_paths_from v 1 n) (map (path v) tiles) (path v t ∷ [])))
     ∙ ap each_once (map-append folder_above (paths_in v n tiles) (path v t ∷ []))
     ∙ each_once-more (map folder_above (paths_in v n tiles)) (folder_above (path v t))
 

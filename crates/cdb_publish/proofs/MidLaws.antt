@@ -31,8 +31,8 @@ use Rattle.cdb_manifest.specs.declared.record_.Record.{Record}
 use Rattle.cdb_cut.specs.Laws.{IsExtreme}
 use Rattle.cdb_chain.specs.Publications.{AreRecords}
 use Rattle.cdb_publish.specs.Fitting.{Plans}
-use Rattle.cdb_cut.specs.FinerTiles.{AreChildren, elevation_of}
-use Rattle.cdb_publish.specs.TileFiles.{HasFiles}
+use Rattle.cdb_cut.specs.FinerTiles.{AreChildren, elevation_tile}
+use Rattle.cdb_publish.specs.TileFiles.{HasFilesFor}
 use Rattle.cdb_chain.specs.LookUps.{is_listed, found_in}
 use Rattle.cdb_publish.specs.LookUps.{look, look_before, IsNamed}
 use Rattle.cdb_publish.specs.Windows.{HasSources}
@@ -144,7 +144,7 @@ same_place : (f : Family) (h : ℕ) (c : Place) → (f ≡ Low) ⊎ (f ≡ High)
 same_place f h c (inl e) = subst (λ (g : Family). place_in g h c ≡ place_in Elev h c) (sym e) refl
 same_place f h c (inr e) = subst (λ (g : Family). place_in g h c ≡ place_in Elev h c) (sym e) refl
 
-pub elevation_reached : (heads : List SourceHead) (t : Tile) → IsExtreme t.family → Reached heads t → Reached heads (elevation_of t)
+pub elevation_reached : (heads : List SourceHead) (t : Tile) → IsExtreme t.family → Reached heads t → Reached heads (elevation_tile t)
 elevation_reached heads t extreme r =
     let h = source_height r.head in
     record {
@@ -156,19 +156,19 @@ elevation_reached heads t extreme r =
         level = r.reaches.level;
         corner = r.reaches.corner;
         on_grid = r.reaches.on_grid;
-        in_tile = subst (λ q. IsInTile (elevation_of t) q) (same_place t.family h r.reaches.corner extreme) (in_same r.reaches.in_tile);
+        in_tile = subst (λ q. IsInTile (elevation_tile t) q) (same_place t.family h r.reaches.corner extreme) (in_same r.reaches.in_tile);
         in_box = subst (λ q. IsInBox r.head q) (same_place t.family h r.reaches.corner extreme) r.reaches.in_box;
       };
     }
   where
-    in_same : {q : Place} → IsInTile t q → IsInTile (elevation_of t) q
+    in_same : {q : Place} → IsInTile t q → IsInTile (elevation_tile t) q
     in_same i = record { south = i.south; north = i.north; west = i.west; east = i.east }
 
 -- ---- all together
 
 pub mid_has_files : (bytes : BytesByReaching) (p : Plan) (kept : List Record) (P : List (List Source)) (x : List Source) (number : ℕ) (s : State) (t : Tile) (children : List Tile)
     → Plans p P x → AreRecords kept P → IsImage s s.present → IsMidAfter P x p.record.tiles (length x + number) s → slice_get p.record.tiles number ≡ Some t → AreChildren t children
-    → HasFiles p kept s.present (sources_of P) x t children
+    → HasFilesFor p kept s.present (sources_of P) x t children
 mid_has_files bytes p kept P x number s t children plans are here mid at those = record {
   heads = plans.heads;
   children_named = λ k d l. named bytes p kept P x number s plans are here mid (get_or children k d)
@@ -177,9 +177,9 @@ mid_has_files bytes p kept P x number s t children plans are here mid at those =
   older = named_before bytes p kept P x number s plans are here mid t;
   elevation = λ extreme.
       let reached : Reached (heads_of x) t = (plans.touched.exact t).0 (number, in_range p.record.tiles number t at, get_or_from_slice_get p.record.tiles number t t at) in
-      let e = place_of p.record.tiles (elevation_of t) ((plans.touched.exact (elevation_of t)).1 (elevation_reached (heads_of x) t extreme reached)) in
-      own_there bytes p kept P x number s plans are here mid (elevation_of t) e.0 e.1
-      (precedes p.record.tiles e.0 number (elevation_of t) t plans.touched.ordered e.1 at (elevation_first (elevation_of t) t refl extreme));
+      let e = place_of p.record.tiles (elevation_tile t) ((plans.touched.exact (elevation_tile t)).1 (elevation_reached (heads_of x) t extreme reached)) in
+      own_there bytes p kept P x number s plans are here mid (elevation_tile t) e.0 e.1
+      (precedes p.record.tiles e.0 number (elevation_tile t) t plans.touched.ordered e.1 at (elevation_first (elevation_tile t) t refl extreme));
 }
 
 pub all_sources : (P : List (List Source)) (x : List Source) → sources_of (P ++ x ∷ []) ≡ sources_of P ++ x

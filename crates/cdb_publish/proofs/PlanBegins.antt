@@ -15,9 +15,9 @@ use Rattle.cdb_model.specs.Stands.{IsPublication, IsEntryCount, ArePublications}
 use Rattle.cdb_crash.specs.Plan.{File, source_files, tile_file, files_of, folders_of, each_once}
 use Rattle.cdb_publish.specs.Entries.{entries_in}
 use Rattle.cdb_chain.specs.Publications.{AreRecords}
-use Rattle.cdb_publish.specs.Planning.{IsAccepted, source_paths, paths_in}
+use Rattle.cdb_publish.specs.Planning.{IsAccepted, source_paths_from, paths_in}
 
-source_folders : (v from : ℕ) (x : List Source) → map (λ (file : File). folder_above file.path) (source_files v from x) ≡ map folder_above (source_paths v from (length x))
+source_folders : (v from : ℕ) (x : List Source) → map (λ (file : File). folder_above file.path) (source_files v from x) ≡ map folder_above (source_paths_from v from (length x))
 source_folders v from [] = refl
 source_folders v from (s ∷ x) = ap (λ t. folder_above (source_path v from) ∷ t) (source_folders v (from + 1) x)
 
@@ -29,7 +29,7 @@ pub folders_are : (P : List (List Source)) (x : List Source) (tiles : List Tile)
 folders_are P x tiles =
     let v : ℕ = length P + 1 in
     let all : List Source = sources_of (P ++ x ∷ []) in
-    ap each_once (map-append folder_above (source_paths (length P + 1) 1 (length x)) (map (path (length P + 1)) tiles)
+    ap each_once (map-append folder_above (source_paths_from (length P + 1) 1 (length x)) (map (path (length P + 1)) tiles)
     ∙ (λ i. sym (source_folders (length P + 1) 1 x) i ++ sym (tile_folders (length P + 1) (sources_of (P ++ x ∷ [])) tiles) i)
     ∙ sym (map-append (λ (file : File). folder_above file.path) (source_files (length P + 1) 1 x) (map (tile_file (length P + 1) (sources_of (P ++ x ∷ []))) tiles)))
 

@@ -17,7 +17,7 @@ use Rattle.cdb_source.specs.declared.head.SourceHead.{SourceHead}
 use Rattle.cdb_source.specs.declared.kind.Kind.{Kind}
 use Rattle.cdb_source.specs.declared.kind.Kind.TheVariants.{Elevation, Material}
 use Rattle.cdb_source.proofs.SampleLaws.{in_box}
-use Rattle.cdb_cut.specs.Window.{HasPlace, has_place, has_window}
+use Rattle.cdb_cut.specs.Window.{HasPlaceInBox, has_place, has_window}
 use Rattle.cdb_publish.specs.Laws.{RowsReach}
 
 same_from : (k l : Kind) → same_kind k l ≡ true → k ≡ l
@@ -26,7 +26,7 @@ same_from Elevation Material e = absurd cc
 same_from Material Elevation e = absurd cc
 same_from Material Material e = refl
 
-place_from : (head : SourceHead) (t : Tile) → has_place head t ≡ true → HasPlace head t
+place_from : (head : SourceHead) (t : Tile) → has_place head t ≡ true → HasPlaceInBox head t
 unfolding has_place
 place_from head t h =
     let n : ℕ = tile_side t in
@@ -48,7 +48,7 @@ rows_reach head t takes =
     let second = both (same_kind head.kind (kind_of t.family)) (has_place head t) first.1 in
     let level : head.level.number ≡ t.level.number = (Decides-int_eq head.level.number t.level.number).0 first.0 in
     let height : tile_height t ≡ source_height head = ap height_of (sym level) in
-    let p : HasPlace head t = place_from head t second.1 in
+    let p : HasPlaceInBox head t = place_from head t second.1 in
     let G : ℕ → Type 0 = λ h. IsCorner h (element_corner t p.row p.col) in
     let T : ℕ → Type 0 = λ h. IsInTile t (place_in t.family h (element_corner t p.row p.col)) in
     let B : ℕ → Type 0 = λ h. IsInBox head (place_in t.family h (element_corner t p.row p.col)) in (

@@ -3,7 +3,7 @@ use Rattle.std.proofs.Common.{◌≡◌, ℕ, suc, ◌+◌, inl, inr, Bool, true
 use Rattle.cdb_grid.specs.declared.family.Family.{Family}
 use Rattle.cdb_grid.specs.declared.family.Family.TheVariants.{Elev, Low, High, Mat}
 use Rattle.cdb_grid.specs.declared.tile.Tile.{Tile}
-use Rattle.cdb_source.specs.Texts.{front_text, posts_text, source_text}
+use Rattle.cdb_source.specs.Texts.{source_front_text, posts_text, source_text}
 use Rattle.cdb_source.specs.declared.source.Source.{Source}
 use Rattle.cdb_source.proofs.TextLaws.{length-front_text, length-posts_text}
 use Rattle.cdb_model.specs.Publications.{heads_of}
@@ -12,8 +12,8 @@ use Rattle.cdb_model.specs.Names.{source_path}
 use Rattle.cdb_manifest.specs.declared.record_.Record.{Record}
 use Rattle.cdb_cut.specs.Laws.{IsExtreme}
 use Rattle.cdb_publish.specs.LookUps.{look, look_before, needs_of, child_needs, IsNamed}
-use Rattle.cdb_cut.specs.FinerTiles.{elevation_of}
-use Rattle.cdb_publish.specs.TileFiles.{HasFiles, own_needs, extreme_needs, family_needs}
+use Rattle.cdb_cut.specs.FinerTiles.{elevation_tile}
+use Rattle.cdb_publish.specs.TileFiles.{HasFilesFor, own_needs, extreme_needs, family_needs}
 use Rattle.cdb_publish.specs.Needs.{AreSized}
 use Rattle.cdb_publish.specs.Windows.{takes_rows, source_size, window_need, window_needs}
 use Rattle.cdb_publish.specs.declared.plan.Plan.{Plan}
@@ -31,7 +31,7 @@ children_sized p kept m ss (c ∷ items) all =
     (children_sized p kept m ss items (λ k d l. all (suc k) d (omega (arith, l))))
 
 source_long : (s : Source) → length (source_text s) ≡ source_size s.head
-source_long s = omega (arith, length-append (front_text s.head) (posts_text s.posts), length-front_text s.head, length-posts_text s.posts, s.count)
+source_long s = omega (arith, length-append (source_front_text s.head) (posts_text s.posts), length-front_text s.head, length-posts_text s.posts, s.count)
 
 windows_sized : (m : FileMap) (version number : ℕ) (x : List Source) (t : Tile) → ((k : ℕ) (s : Source) → slice_get x k ≡ Some s → m (source_path version (number + k)) ≡ Some (source_text s))
     → AreSized m (window_needs version number (heads_of x) t)
@@ -47,7 +47,7 @@ windows_sized m version number (s ∷ x) t there =
         (ap size_of (subst (λ n. m (source_path version n) ≡ Some (source_text s)) e (there 0 s refl)) ∙ ap (λ n. Some n) (source_long s), tt)
     one false = tt
 
-module _ (p : Plan) (kept : List Record) (m : FileMap) (ss x : List Source) (t : Tile) (children : List Tile) (has : HasFiles p kept m ss x t children) where
+module _ (p : Plan) (kept : List Record) (m : FileMap) (ss x : List Source) (t : Tile) (children : List Tile) (has : HasFilesFor p kept m ss x t children) where
   sources_sized : AreSized m (window_needs p.record.version 1 p.record.heads t)
   sources_sized =
       subst (λ hs. AreSized m (window_needs p.record.version 1 hs t)) (sym has.heads)
@@ -60,8 +60,8 @@ module _ (p : Plan) (kept : List Record) (m : FileMap) (ss x : List Source) (t :
 
   extreme_sized : IsExtreme t.family → AreSized m (extreme_needs p kept t children)
   extreme_sized extreme =
-      sized-append m (needs_of (elevation_of t) (Some p.record.version)) (child_needs p kept children)
-      (named_sized m (ss ++ x) (elevation_of t) (Some p.record.version) (has.elevation extreme)) (children_sized p kept m (ss ++ x) children has.children_named)
+      sized-append m (needs_of (elevation_tile t) (Some p.record.version)) (child_needs p kept children)
+      (named_sized m (ss ++ x) (elevation_tile t) (Some p.record.version) (has.elevation extreme)) (children_sized p kept m (ss ++ x) children has.children_named)
 
   pub all_sized : AreSized m (family_needs t.family p kept t children)
   all_sized = by t.family refl

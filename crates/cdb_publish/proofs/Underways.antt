@@ -6,7 +6,7 @@ use Rattle.cdb_source.specs.declared.source.Source.{Source}
 use Rattle.cdb_model.specs.Stands.{Stands}
 use Rattle.cdb_files.specs.Disk.{State, IsImage}
 use Rattle.cdb_manifest.specs.declared.record_.Record.{Record}
-use Rattle.cdb_crash.specs.Crash.{IsReady}
+use Rattle.cdb_crash.specs.Crash.{IsReadyForHead}
 use Rattle.cdb_crash.specs.Laws.{PlanKeeps}
 use Rattle.cdb_crash.specs.Leftovers.{HasNext}
 use Rattle.cdb_crash.specs.Plan.{steps_of, IsMidAfter}
@@ -98,7 +98,7 @@ steps_counted p P x plans =
 
 -- All steps but the head's are made.
 pub now_ready : (w : Work) (P : List (List Source)) (x : List Source) (n : ℕ) (s : State) → Fits w P x n → IsImage s s.present → IsMidAfter P x w.plan.record.tiles n s
-    → w.done ≡ steps_before_head w.plan → IsReady Stands HasNext P x s
+    → w.done ≡ steps_before_head w.plan → IsReadyForHead Stands HasNext P x s
 now_ready w P x n s fits here mid full =
     let M : ℕ → Type 0 = λ k. IsMidAfter P x w.plan.record.tiles k s in
     (keeps w P x n fits).ready s here (subst M (sym fits.done ∙ full ∙ sym (steps_counted w.plan P x fits.plan)) mid)

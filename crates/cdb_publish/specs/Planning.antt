@@ -32,11 +32,11 @@ IsTooHeavy heads (Entries count) = ⊥
 IsTooHeavy heads Versions = ⊥
 
 -- What a refusal says, each behind those before it.
-abbrev pub Refuses : List Record → List SourceHead → PlanError → Type 0
-Refuses kept heads Memory = Unit {0}
-Refuses kept heads (Large count) = IsLoad heads count × (16384 < count)
-Refuses kept heads (Entries count) = IsLight heads × MakesEntries kept heads count × (1000000 < count)
-Refuses kept heads Versions = IsLight heads × ((count : ℕ) × MakesEntries kept heads count × (count ≤ 1000000))
+abbrev pub RefusesPlan : List Record → List SourceHead → PlanError → Type 0
+RefusesPlan kept heads Memory = Unit {0}
+RefusesPlan kept heads (Large count) = IsLoad heads count × (16384 < count)
+RefusesPlan kept heads (Entries count) = IsLight heads × MakesEntries kept heads count × (1000000 < count)
+RefusesPlan kept heads Versions = IsLight heads × ((count : ℕ) × MakesEntries kept heads count × (count ≤ 1000000))
     × (length kept ≡ 4096)
 
 -- What none of them applies to.
@@ -45,12 +45,12 @@ IsAccepted kept heads = IsLight heads × ((count : ℕ) × MakesEntries kept hea
     × (length kept < 4096)
 
 -- The paths of a publication's files but its record's, by their numbers.
-abbrev pub source_paths : ℕ → ℕ → ℕ → List Text
-source_paths version from zero = []
-source_paths version from (suc count) = source_path version from ∷ source_paths version (from + 1) count
+abbrev pub source_paths_from : ℕ → ℕ → ℕ → List Text
+source_paths_from version from zero = []
+source_paths_from version from (suc count) = source_path version from ∷ source_paths_from version (from + 1) count
 
 abbrev pub paths_in : ℕ → ℕ → List Tile → List Text
-paths_in version sources tiles = source_paths version 1 sources ++ map (path version) tiles
+paths_in version sources tiles = source_paths_from version 1 sources ++ map (path version) tiles
 
 -- A text more at the end, where it isn't among them.
 abbrev pub once_more : List Text → Text → List Text

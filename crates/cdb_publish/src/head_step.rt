@@ -9,7 +9,7 @@ ghost use Rattle.cdb_model.specs.Stands.{Stands};
 ghost use Rattle.cdb_files.specs.Disk.{IsMade, IsSettledAt, Fails, after_rename, after_sync_dir};
 ghost use Rattle.cdb_files.specs.Moments.{AddsOnly, Elapses, IsBetween};
 ghost use Rattle.cdb_files.specs.Whole.{after_fill, WritesOnly};
-ghost use Rattle.cdb_crash.specs.Crash.{IsClean, IsReady, IsEither, head_filled, head_synced};
+ghost use Rattle.cdb_crash.specs.Crash.{IsClean, IsReadyForHead, IsEither, head_filled, head_synced};
 ghost use Rattle.cdb_crash.specs.Leftovers.{HasNext};
 
 use crate::paths::{head, new_head, root};
@@ -66,10 +66,10 @@ pub(crate) fn publish_head<D: Disk>(disk: &mut D, version: u32) -> Result<(), Fa
     requires least { 1 ≤ version }
     requires most { version ≤ 4096 }
     ensures clean { D.tells → (P : List (List sources.Source)) (x : List sources.Source) → version ≡ length P + 1
-        → IsReady Stands HasNext P x (D.state disk.old) → OnOk result (IsClean Stands (P ++ x ∷ [])
+        → IsReadyForHead Stands HasNext P x (D.state disk.old) → OnOk result (IsClean Stands (P ++ x ∷ [])
         (D.state disk.new)) }
     ensures moments { D.tells → (P : List (List sources.Source)) (x : List sources.Source) → version ≡ length P + 1
-        → IsReady Stands HasNext P x (D.state disk.old) → AddsOnly D.clock D.since disk.old disk.new
+        → IsReadyForHead Stands HasNext P x (D.state disk.old) → AddsOnly D.clock D.since disk.old disk.new
         (IsEither Stands P x) }
     ensures cause { HasCause (D.fault_count disk.old) (D.fault_count disk.new) result }
     ensures reads { D.read_count disk.new ≡ D.read_count disk.old }

@@ -5,7 +5,7 @@ ghost use Rattle.cdb_model.specs.Publications.{heads_of};
 ghost use Rattle.cdb_model.specs.Stands.{ArePublications};
 ghost use Rattle.cdb_chain.specs.Publications.{AreRecords};
 ghost use Rattle.cdb_publish.specs.Fitting.{Plans};
-ghost use Rattle.cdb_publish.specs.Planning.{Refuses, IsAccepted, IsLight, IsTooHeavy};
+ghost use Rattle.cdb_publish.specs.Planning.{RefusesPlan, IsAccepted, IsLight, IsTooHeavy};
 ghost use Rattle.cdb_source.specs.Reached.{IsTouched};
 
 use crate::errors::PlanError;
@@ -61,7 +61,7 @@ pub(crate) fn outline(alloc: Global, chain: &Chain, sources: &[Source]) -> Resul
     ensures heads { IfOk result (λ p. p.record.heads ≡ heads_of sources.now) }
     ensures touched { IfOk result (λ p. IsTouched (heads_of sources.now) p.record.tiles) }
     ensures accepted { IfOk result (λ p. IsAccepted chain.now.records (heads_of sources.now)) }
-    ensures refused { IfErr result (Refuses chain.now.records (heads_of sources.now)) }
+    ensures refused { IfErr result (RefusesPlan chain.now.records (heads_of sources.now)) }
 {
     let heads = heads(alloc, sources)?;
     let tiles = match touch(alloc, heads.as_slice()) {

@@ -6,7 +6,7 @@ ghost use Rattle.cdb_model.specs.Publications.{heads_of};
 ghost use Rattle.cdb_model.specs.Stands.{Stands};
 ghost use Rattle.cdb_crash.specs.Crash.{IsClean};
 ghost use Rattle.cdb_chain.specs.Publications.{AreRecords};
-ghost use Rattle.cdb_publish.specs.Planning.{Refuses, IsAccepted};
+ghost use Rattle.cdb_publish.specs.Planning.{RefusesPlan, IsAccepted};
 ghost use Rattle.cdb_publish.specs.Ready.{IsReady};
 
 use crate::errors::PlanError;
@@ -82,7 +82,7 @@ impl Publication {
         ensures begun { IfOk result (λ q. IsBegun q (heads_of sources.items)) }
         ensures few { (load : ℕ) → IsLoad (heads_of sources.items) load → IfOk result (λ q. q.files ≤ load) }
         ensures version { IfOk result (λ q. q.version ≡ length chain.now.records + 1) }
-        ensures refused { IfErr result (λ r. Refuses chain.now.records (heads_of sources.items) r.error) }
+        ensures refused { IfErr result (λ r. RefusesPlan chain.now.records (heads_of sources.items) r.error) }
         ensures back { IfErr result (λ r. r.sources.items ≡ sources.items) }
         ensures disk { disk.new ≡ disk.old }
     {
@@ -96,7 +96,7 @@ impl Publication {
                 sources,
             });
         };
-        Ok(Publication::begun(Work {
+        Ok(Publication::of_work(Work {
             plan,
             sources: last_first(sources),
             done: 0,

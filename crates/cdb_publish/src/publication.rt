@@ -32,10 +32,10 @@ impl Publication {
     ghost use Rattle.cdb_publish.specs.Needs.{IsDamage};
     ghost use Rattle.cdb_publish.specs.Reads.{SizesTold};
     ghost use Rattle.cdb_publish.specs.declared.work.Work as work;
-    ghost use Rattle.cdb_publish.specs.Entries.{Adds};
+    ghost use Rattle.cdb_publish.specs.Entries.{AddsRecord};
     ghost use Rattle.cdb_publish.specs.Going.{left_of, reads_left_of, Underway, TellsProgress};
 
-    pub(crate) fn begun(work: Work) -> Publication
+    pub(crate) fn of_work(work: Work) -> Publication
         requires { IsSound work }
         ensures work { result.work ≡ Some work }
         ensures version { result.version ≡ work.plan.record.version }
@@ -105,7 +105,7 @@ impl Publication {
         ensures chain { 1 < left_of self.old → chain.new ≡ chain.old }
         ensures refused_chain { OnErr result (chain.new ≡ chain.old) }
         ensures added { left_of self.old ≡ 1
-            → OnOk result (Adds self.old.version self.old.files chain.old.records chain.new.records) }
+            → OnOk result (AddsRecord self.old.version self.old.files chain.old.records chain.new.records) }
         ensures undamaged { D.tells → (P : List (List given.Source)) (x : List given.Source) (number : ℕ)
             → Underway self.old P x number chain.old.records (D.state disk.old)
             → IfErr result (λ e. e ≡ StepError.Fault) }

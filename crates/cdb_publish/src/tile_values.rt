@@ -4,10 +4,10 @@ ghost use Rattle.cdb_grid.specs.Tiles.{tile_side};
 ghost use Rattle.cdb_source.specs.declared.source.Source as given;
 ghost use Rattle.cdb_files.specs.Moments.{Rests};
 ghost use Rattle.cdb_cut.specs.Laws.{IsOwn, IsExtreme};
-ghost use Rattle.cdb_cut.specs.OneTile.{IsFrameOf, IsFolded, nothing};
+ghost use Rattle.cdb_cut.specs.OneTile.{IsFrameOf, IsFolded, no_values};
 ghost use Rattle.cdb_publish.specs.Causes.{IsCaused};
-ghost use Rattle.cdb_cut.specs.FinerTiles.{AreChildren, elevation_of};
-ghost use Rattle.cdb_publish.specs.TileFiles.{HasFiles, own_needs, extreme_needs, family_needs};
+ghost use Rattle.cdb_cut.specs.FinerTiles.{AreChildren, elevation_tile};
+ghost use Rattle.cdb_publish.specs.TileFiles.{HasFilesFor, own_needs, extreme_needs, family_needs};
 ghost use Rattle.cdb_publish.specs.Needs.{TellsSizes, IsDamage};
 ghost use Rattle.cdb_publish.specs.Windows.{HasRoom};
 
@@ -25,7 +25,7 @@ use cdb_source::kind_of;
 /// Leaves a frame without values.
 fn clear(tile: &Tile, frame: &mut [i16])
     requires { length frame.old ≡ tile_side tile.now * tile_side tile.now }
-    ensures { (ss : List given.Source) → IsFolded ss tile.now nothing [] frame.new }
+    ensures { (ss : List given.Source) → IsFolded ss tile.now no_values [] frame.new }
 {
     let none = kind_of(tile.family).no_value();
     for k in 0..frame.len() {
@@ -35,7 +35,7 @@ fn clear(tile: &Tile, frame: &mut [i16])
 
 /// The tile of elevations of the same cells.
 fn elevation_of(tile: &Tile) -> Tile
-    ensures { result ≡ elevation_of tile.now }
+    ensures { result ≡ elevation_tile tile.now }
 {
     Tile {
         family: Family::Elev,
@@ -65,7 +65,7 @@ fn make_own<D: Disk>(
     requires row_bytes { 2 * length scratch.old ≤ length bytes.old }
     requires frame { length frame.old ≡ tile_side tile.now * tile_side tile.now }
     ensures values { D.tells → (ss x : List given.Source)
-        → HasFiles plan.now chain.now.records (D.state disk.old).present ss x tile.now children.now
+        → HasFilesFor plan.now chain.now.records (D.state disk.old).present ss x tile.now children.now
         → OnOk result (IsFrameOf (ss ++ x) tile.now frame.new) }
     ensures sizes { D.tells → TellsSizes (D.state disk.old).present
         (own_needs plan.now chain.now.records tile.now children.now) result }
@@ -108,7 +108,7 @@ fn make_extreme<D: Disk>(
     requires scratch { 1048576 ≤ length scratch.old }
     requires frame { length frame.old ≡ tile_side tile.now * tile_side tile.now }
     ensures values { D.tells → (ss x : List given.Source)
-        → HasFiles plan.now chain.now.records (D.state disk.old).present ss x tile.now children.now
+        → HasFilesFor plan.now chain.now.records (D.state disk.old).present ss x tile.now children.now
         → OnOk result (IsFrameOf (ss ++ x) tile.now frame.new) }
     ensures sizes { D.tells → TellsSizes (D.state disk.old).present
         (extreme_needs plan.now chain.now.records tile.now children.now) result }
@@ -149,7 +149,7 @@ pub(crate) fn make_values<D: Disk>(
     requires row_bytes { 2 * length scratch.old ≤ length bytes.old }
     requires frame { length frame.old ≡ tile_side tile.now * tile_side tile.now }
     ensures values { D.tells → (ss x : List given.Source)
-        → HasFiles plan.now chain.now.records (D.state disk.old).present ss x tile.now children.now
+        → HasFilesFor plan.now chain.now.records (D.state disk.old).present ss x tile.now children.now
         → OnOk result (IsFrameOf (ss ++ x) tile.now frame.new) }
     ensures sizes { D.tells → TellsSizes (D.state disk.old).present
         (family_needs tile.now.family plan.now chain.now.records tile.now children.now) result }

@@ -10,7 +10,7 @@ use Rattle.cdb_model.specs.Records.{head_file_text}
 use Rattle.cdb_model.specs.Stands.{head_content, Stands}
 use Rattle.cdb_crash.specs.Leftovers.{HasAtMost}
 use Rattle.cdb_crash.proofs.HeadTexts.{head_text_tells}
-use Rattle.cdb_recover.specs.Answers.{IsNewest, NamesNone, IsFull, IsAnswer}
+use Rattle.cdb_recover.specs.Answers.{NamesNewest, NamesNone, HasTooMany, IsAnswer}
 use Rattle.cdb_recover.specs.declared.recover_error.RecoverError.{RecoverError}
 use Rattle.cdb_recover.specs.declared.recover_error.RecoverError.TheVariants.{Fault, NotAStore}
 
@@ -34,15 +34,15 @@ long_file (Some bytes) n size long = long_head bytes (omega (arith, long, ap val
     value None = 0
     value (Some k) = k
 
-newest_of : (list : List (List Source)) (n : ℕ) → length list ≤ 4096 → IsNewest (head_content list) n → n ≡ length list
+newest_of : (list : List (List Source)) (n : ℕ) → length list ≤ 4096 → NamesNewest (head_content list) n → n ≡ length list
 newest_of [] n few named = named
 newest_of (x ∷ list) n few (least, most, e) =
     sym (head_text_tells (length (x ∷ list)) n (omega (arith, few)) (omega (arith, most)) e)
 
 -- Over a store the newest version that is named is that of its list.
-pub newest_is : (m : FileMap) (list : List (List Source)) (n : ℕ) → Stands m list → IsNewest (m head_path) n
+pub newest_is : (m : FileMap) (list : List (List Source)) (n : ℕ) → Stands m list → NamesNewest (m head_path) n
     → n ≡ length list
-newest_is m list n stands named = let N : Content → Type 0 = λ c. IsNewest c n in
+newest_is m list n stands named = let N : Content → Type 0 = λ c. NamesNewest c n in
     newest_of list n stands.publications.few (subst N stands.head named)
 
 named_some : (list : List (List Source)) → length list ≤ 4096 → NamesNone (head_content list) → ⊥
@@ -52,7 +52,7 @@ named_some (x ∷ list) few none = none (length (x ∷ list)) (omega arith) few 
 pub names_one : (m : FileMap) (list : List (List Source)) → Stands m list → NamesNone (m head_path) → ⊥
 names_one m list stands none = named_some list stands.publications.few (subst NamesNone stands.head none)
 
-not_full : (m : FileMap) (list : List (List Source)) (version place : ℕ) → Stands m list → IsFull m version place → ⊥
+not_full : (m : FileMap) (list : List (List Source)) (version place : ℕ) → Stands m list → HasTooMany m version place → ⊥
 not_full m list version place stands full =
     let H : ℕ → Type 0 = λ n. HasAtMost 65536 (n + 1) m in
     full.many (subst H (sym (newest_is m list full.newest stands full.named)) stands.leftovers)

@@ -16,7 +16,7 @@ use Rattle.cdb_crash.proofs.HeadTexts.{head_text_tells}
 use Rattle.cdb_crash.proofs.Own as own
 use Rattle.cdb_crash.proofs.Paths.{not_new_head, at_most-none, at_most-wider}
 use Rattle.cdb_crash.proofs.Possible.{sync_dir-present}
-use Rattle.cdb_recover.specs.Answers.{IsAnswer, IsCleared, IsNewest, NamesNone, HasNoLeftover, RemovesLeftovers, KeepsStore}
+use Rattle.cdb_recover.specs.Answers.{IsAnswer, IsCleared, NamesNewest, NamesNone, HasNoLeftover, RemovesLeftovers, KeepsStore}
 use Rattle.cdb_recover.proofs.Removals.{others_stay}
 use Rattle.cdb_recover.specs.Clearing.{RemovesOne, RemovesUnder}
 use Rattle.cdb_recover.specs.declared.recover_error.RecoverError.{RecoverError}
@@ -104,26 +104,26 @@ no_leftover newest middle new gone removed none q = of
     of (inl is) = ap new is ∙ head (removed.each new_head_path)
     of (inr under) = none q under
 
-pub answered : (m : FileMap) (newest : ℕ) (result : Result ℕ RecoverError) → IsNewest (m head_path) newest
+pub answered : (m : FileMap) (newest : ℕ) (result : Result ℕ RecoverError) → NamesNewest (m head_path) newest
     → IsCleared newest m result → IsAnswer m result
 answered m newest (Ok version) named (is, few) =
-    let N : ℕ → Type 0 = λ n. IsNewest (m head_path) n in
+    let N : ℕ → Type 0 = λ n. NamesNewest (m head_path) n in
     let F : ℕ → Type 0 = λ n. HasAtMost 65536 (n + 1) m in
     (subst N (sym is) named, subst F (sym is) few)
 answered m newest (Err (NotAStore version place)) named (many, version_is, place_is) =
     inr (record { newest = newest; named = named; many = many; version_is = version_is; place_is = place_is })
 answered m newest (Err Fault) named h = tt
 
-one_newest : (content : Content) (j k : ℕ) → IsNewest content j → IsNewest content k → j ≡ k
+one_newest : (content : Content) (j k : ℕ) → NamesNewest content j → NamesNewest content k → j ≡ k
 one_newest None j k a b = a ∙ sym b
 one_newest (Some bytes) j k (least, most, is) (least_k, most_k, is_k) =
     head_text_tells j k (omega (arith, most)) (omega (arith, most_k)) (sym is ∙ is_k)
 
-not_both : (content : Content) (newest : ℕ) → IsNewest content newest → NamesNone content → ⊥
+not_both : (content : Content) (newest : ℕ) → NamesNewest content newest → NamesNone content → ⊥
 not_both None newest named none = none
 not_both (Some bytes) newest (least, most, is) none = none newest least most is
 
-pub keeps_named : (newest : ℕ) (old new : FileMap) → IsNewest (old head_path) newest
+pub keeps_named : (newest : ℕ) (old new : FileMap) → NamesNewest (old head_path) newest
     → RemovesLeftovers newest old new
     → KeepsStore old new
 keeps_named newest old new named kept = record {

@@ -14,7 +14,7 @@ use Rattle.cdb_crash.proofs.Clearing.{removed-at, removed-present}
 use Rattle.cdb_crash.proofs.Own as own
 use Rattle.cdb_crash.proofs.Paths.{one_less, at_most-wider, at_most-with, at_most-none}
 use Rattle.cdb_crash.proofs.Possible.{sync_dir-present}
-use Rattle.cdb_recover.specs.Clearing.{IsLeft, RemovesOne, RemovesUnder}
+use Rattle.cdb_recover.specs.Clearing.{IsLeftUnder, RemovesOne, RemovesUnder}
 
 -- ---- the moments of a removal that is synced
 module _ {D : Type 0} (clock : D → ℕ) (since : D → ℕ → FileMap → Type 0) (state : D → State) where
@@ -100,30 +100,30 @@ not_more n most folder old new le removed = record {
 
 -- ---- how many are left
 module _ (folder path : Text) (old new : FileMap) where
-  pub one_removed : (n : ℕ) → IsLeft folder old path → RemovesOne path old new → new path ≡ None
-      → AtMost n (IsLeft folder old) → AtMost (n - 1) (IsLeft folder new)
+  pub one_removed : (n : ℕ) → IsLeftUnder folder old path → RemovesOne path old new → new path ≡ None
+      → AtMost n (IsLeftUnder folder old) → AtMost (n - 1) (IsLeftUnder folder new)
   one_removed n left removed gone most =
-      one_less n (IsLeft folder old) (IsLeft folder new) path left (λ q now. of q now (same_text q path)) most
+      one_less n (IsLeftUnder folder old) (IsLeftUnder folder new) path left (λ q now. of q now (same_text q path)) most
     where
-      of : (q : Text) → IsLeft folder new q → (q ≡ path) ⊎ (q ≢ path) → IsLeft folder old q × (q ≢ path)
+      of : (q : Text) → IsLeftUnder folder new q → (q ≡ path) ⊎ (q ≢ path) → IsLeftUnder folder old q × (q ≢ path)
       of q (under, there) (inl e) = let T : Content → Type 0 = IsThere in absurd (subst T (ap new e ∙ gone) there)
       of q (under, there) (inr ne) = let T : Content → Type 0 = IsThere in
           ((under, subst T (others_stay path old new removed q ne) there), ne)
 
-  pub one_back : (n : ℕ) → RemovesOne path old new → AtMost n (IsLeft folder new) → AtMost (n + 1) (IsLeft folder old)
+  pub one_back : (n : ℕ) → RemovesOne path old new → AtMost n (IsLeftUnder folder new) → AtMost (n + 1) (IsLeftUnder folder old)
   one_back n removed most =
-      at_most-with n (IsLeft folder new) (IsLeft folder old) path (λ q was. of q was (same_text q path)) most
+      at_most-with n (IsLeftUnder folder new) (IsLeftUnder folder old) path (λ q was. of q was (same_text q path)) most
     where
-      of : (q : Text) → IsLeft folder old q → (q ≡ path) ⊎ (q ≢ path) → IsLeft folder new q ⊎ (q ≡ path)
+      of : (q : Text) → IsLeftUnder folder old q → (q ≡ path) ⊎ (q ≢ path) → IsLeftUnder folder new q ⊎ (q ≡ path)
       of q was (inl e) = inr e
       of q (under, there) (inr ne) = let T : Content → Type 0 = IsThere in
           inl ((under, subst T (sym (others_stay path old new removed q ne)) there))
 
-pub none_left : (folder : Text) (m : FileMap) (n : ℕ) → NoneUnder m folder → AtMost n (IsLeft folder m)
-none_left folder m n none = at_most-none n (IsLeft folder m) (λ q left. let T : Content → Type 0 = IsThere in
+pub none_left : (folder : Text) (m : FileMap) (n : ℕ) → NoneUnder m folder → AtMost n (IsLeftUnder folder m)
+none_left folder m n none = at_most-none n (IsLeftUnder folder m) (λ q left. let T : Content → Type 0 = IsThere in
     subst T (none q left.0) left.1)
 
-pub one_left : (folder path : Text) (m : FileMap) → IsLeft folder m path → AtMost 0 (IsLeft folder m) → ⊥
+pub one_left : (folder path : Text) (m : FileMap) → IsLeftUnder folder m path → AtMost 0 (IsLeftUnder folder m) → ⊥
 one_left folder path m left most = of (most.all path left)
   where
     of : Contains most.paths path → ⊥

@@ -11,32 +11,32 @@ use Rattle.cdb_crash.specs.Crash.{IsWhole, IsClearing}
 use Rattle.cdb_crash.specs.Leftovers.{IsOfVersion}
 use Rattle.cdb_crash.specs.Recovery.{after_removal}
 use Rattle.cdb_crash.proofs.Own as own
-use Rattle.cdb_recover.specs.Clearing.{IsLeft, RemovesOne, RemovesUnder}
+use Rattle.cdb_recover.specs.Clearing.{IsLeftUnder, RemovesOne, RemovesUnder}
 use Rattle.cdb_recover.proofs.Removals.{one_removed, one_back, none_removed, one_more}
 
 -- How many files are left, from a map to a later one, after so many removals.
 pub record Counted (folder : Text) (old new : FileMap) (rounds : ℕ) : Type 0 where
-  pub fewer : (n : ℕ) → AtMost n (IsLeft folder old) → AtMost (n - rounds) (IsLeft folder new)
-  pub back : (n : ℕ) → AtMost n (IsLeft folder new) → AtMost (n + rounds) (IsLeft folder old)
+  pub fewer : (n : ℕ) → AtMost n (IsLeftUnder folder old) → AtMost (n - rounds) (IsLeftUnder folder new)
+  pub back : (n : ℕ) → AtMost n (IsLeftUnder folder new) → AtMost (n + rounds) (IsLeftUnder folder old)
   pub removed : RemovesUnder rounds folder old new
 
 pub none_counted : (folder : Text) (m : FileMap) → Counted folder m m 0
 none_counted folder m = record {
-  fewer = λ n most. let A : ℕ → Type 0 = λ k. AtMost k (IsLeft folder m) in let e : n ≡ n - 0 = omega arith in
+  fewer = λ n most. let A : ℕ → Type 0 = λ k. AtMost k (IsLeftUnder folder m) in let e : n ≡ n - 0 = omega arith in
       subst A e most;
-  back = λ n most. let A : ℕ → Type 0 = λ k. AtMost k (IsLeft folder m) in let e : n ≡ n + 0 = omega arith in
+  back = λ n most. let A : ℕ → Type 0 = λ k. AtMost k (IsLeftUnder folder m) in let e : n ≡ n + 0 = omega arith in
       subst A e most;
   removed = none_removed folder m;
 }
 
-pub one_counted : (folder path : Text) (first old new : FileMap) (rounds : ℕ) → IsLeft folder old path
+pub one_counted : (folder path : Text) (first old new : FileMap) (rounds : ℕ) → IsLeftUnder folder old path
     → Counted folder first old rounds → RemovesOne path old new → new path ≡ None
     → Counted folder first new (rounds + 1)
 one_counted folder path first old new rounds left counted removed gone = record {
-  fewer = λ n most. let A : ℕ → Type 0 = λ k. AtMost k (IsLeft folder new) in
+  fewer = λ n most. let A : ℕ → Type 0 = λ k. AtMost k (IsLeftUnder folder new) in
       let e : (n - rounds) - 1 ≡ n - (rounds + 1) = omega arith in
       subst A e (one_removed folder path old new (n - rounds) left removed gone (counted.fewer n most));
-  back = λ n most. let A : ℕ → Type 0 = λ k. AtMost k (IsLeft folder first) in
+  back = λ n most. let A : ℕ → Type 0 = λ k. AtMost k (IsLeftUnder folder first) in
       let e : (n + 1) + rounds ≡ n + (rounds + 1) = omega arith in
       subst A e (counted.back (n + 1) (one_back folder path old new n removed most));
   removed = one_more rounds folder path first old new left.0 counted.removed removed;

@@ -12,9 +12,9 @@ use Rattle.cdb_recover.specs.declared.recover_error.RecoverError.{RecoverError}
 use Rattle.cdb_recover.specs.declared.recover_error.RecoverError.TheVariants.{Fault, NotAStore}
 
 -- The file that names the newest version names this one: 0 where there is no file.
-abbrev pub IsNewest : Content → ℕ → Type 0
-IsNewest None newest = newest ≡ 0
-IsNewest (Some bytes) newest = (1 ≤ newest) × (newest ≤ 4096) × (bytes ≡ head_file_text newest)
+abbrev pub NamesNewest : Content → ℕ → Type 0
+NamesNewest None newest = newest ≡ 0
+NamesNewest (Some bytes) newest = (1 ≤ newest) × (newest ≤ 4096) × (bytes ≡ head_file_text newest)
 
 -- The file is there, and names no version.
 abbrev pub NamesNone : Content → Type 0
@@ -23,7 +23,7 @@ NamesNone (Some bytes) = (newest : ℕ) → 1 ≤ newest → newest ≤ 4096 →
 
 -- What is read of the file.
 abbrev pub IsHeadRead : Content → Result ℕ RecoverError → Type 0
-IsHeadRead content (Ok newest) = IsNewest content newest
+IsHeadRead content (Ok newest) = NamesNewest content newest
 IsHeadRead content (Err (NotAStore version place)) = NamesNone content × (version ≡ 0) × (place ≡ 0)
 IsHeadRead content (Err Fault) = Unit {0}
 
@@ -35,18 +35,18 @@ IsCleared newest m (Err (NotAStore version place)) = (HasAtMost 65536 (newest + 
 IsCleared newest m (Err Fault) = Unit {0}
 
 -- The newest version is named, and there are more than 65,536 files under the next one.
-pub record IsFull (m : FileMap) (version place : ℕ) : Type 0 where
+pub record HasTooMany (m : FileMap) (version place : ℕ) : Type 0 where
   pub newest : ℕ
-  pub named : IsNewest (m head_path) newest
+  pub named : NamesNewest (m head_path) newest
   pub many : HasAtMost 65536 (newest + 1) m → ⊥
   pub version_is : version ≡ newest + 1
   pub place_is : place ≡ 65536
 
 -- What recovery answers over a map.
 abbrev pub IsAnswer : FileMap → Result ℕ RecoverError → Type 0
-IsAnswer m (Ok newest) = IsNewest (m head_path) newest × HasAtMost 65536 (newest + 1) m
+IsAnswer m (Ok newest) = NamesNewest (m head_path) newest × HasAtMost 65536 (newest + 1) m
 IsAnswer m (Err (NotAStore version place)) = (NamesNone (m head_path) × (version ≡ 0) × (place ≡ 0))
-    ⊎ IsFull m version place
+    ⊎ HasTooMany m version place
 IsAnswer m (Err Fault) = Unit {0}
 
 -- The newest version is that of the list, and the disk is clean for it.
@@ -64,5 +64,5 @@ pub record RemovesLeftovers (newest : ℕ) (old new : FileMap) : Type 0 where
 
 -- So it is where a newest version is named, and where none is all stays.
 pub record KeepsStore (old new : FileMap) : Type 0 where
-  pub named : (newest : ℕ) → IsNewest (old head_path) newest → RemovesLeftovers newest old new
+  pub named : (newest : ℕ) → NamesNewest (old head_path) newest → RemovesLeftovers newest old new
   pub unnamed : NamesNone (old head_path) → (q : Text) → new q ≡ old q

@@ -16,13 +16,13 @@ pub record RemovesUnder (most : ℕ) (folder : Text) (old new : FileMap) : Type 
   pub few : AtMost most (λ q. new q ≢ old q)
 
 -- A file lies under the folder.
-abbrev pub IsLeft : Text → FileMap → Text → Type 0
-IsLeft folder m q = IsTrue (is_under folder q) × IsThere (m q)
+abbrev pub IsLeftUnder : Text → FileMap → Text → Type 0
+IsLeftUnder folder m q = IsTrue (is_under folder q) × IsThere (m q)
 
 -- Whether there are at most 65,536 files under the folder.
 abbrev pub TellsFew : Text → FileMap → Bool → Type 0
-TellsFew folder m true = AtMost 65536 (IsLeft folder m)
-TellsFew folder m false = AtMost 65536 (IsLeft folder m) → ⊥
+TellsFew folder m true = AtMost 65536 (IsLeftUnder folder m)
+TellsFew folder m false = AtMost 65536 (IsLeftUnder folder m) → ⊥
 
 -- Whether no file is left under the folder.
 abbrev pub TellsNone : Text → FileMap → Bool → Type 0

@@ -123,7 +123,7 @@ pub fn small_store(alloc: Global) -> Result<MemDisk, Fail> {
 }
 
 /// Bytes of which those from one place to another are replaced.
-fn replaced(alloc: Global, old: &[u8], change: &Change) -> Result<Vec<u8>, Fail> {
+fn replace(alloc: Global, old: &[u8], change: &Change) -> Result<Vec<u8>, Fail> {
     let (first, _) = old.split_at(change.from.min(old.len()));
     let (_, last) = old.split_at(change.to.min(old.len()));
     let mut bytes = Vec::from_slice(alloc, first)?;
@@ -136,7 +136,7 @@ fn replaced(alloc: Global, old: &[u8], change: &Change) -> Result<Vec<u8>, Fail>
 pub fn make_change(alloc: Global, disk: &mut MemDisk, change: &Change) -> Result<(), Fail> {
     let file = path(change.file)?;
     let old = contents(alloc, disk, &file)?.ok_or("the file isn't there")?;
-    let bytes = replaced(alloc, old.as_slice(), change)?;
+    let bytes = replace(alloc, old.as_slice(), change)?;
     disk.remove(&file)?;
     write(disk, &file, bytes.as_slice())
 }

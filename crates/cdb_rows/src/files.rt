@@ -2,7 +2,7 @@
 
 use crate::raster::{has_rasters, tile_after};
 use crate::script::{BY_HAND, new_disk, run_with};
-use crate::tiff::{BIG, LITTLE, changed, large};
+use crate::tiff::{BIG, LITTLE, change, large};
 use cdb_files::Path;
 use cdb_front::{MemOutput, Status};
 use cdb_memfiles::MemShelf;
@@ -101,7 +101,7 @@ fn is_refused(alloc: Global, file: Vec<u8>, answer: &[u8]) -> Result<bool, Fail>
 #[test]
 fn changed_files_are_refused(rt: HostRuntime) -> Result<(), Fail> {
     for (place, byte, answer) in CHANGED.iter() {
-        let file = changed(rt.alloc(), *place, *byte)?;
+        let file = change(rt.alloc(), *place, *byte)?;
         assert!(rt; is_refused(rt.alloc(), file, answer)?);
     }
     for (length, answer) in CUT.iter() {
@@ -155,14 +155,14 @@ fn a_failed_read_leaves_the_store(rt: HostRuntime) -> Result<(), Fail> {
 }
 
 /// The post of a row of a tile at level 1 over posts at 3,600 to a degree, each the number of its row.
-fn interpolated(row: usize) -> i16 {
+fn interpolate(row: usize) -> i16 {
     ((7200 * (row.min(1023) as i64) + 2048) / 4096) as i16
 }
 
 /// Whether a raster of 1,024 by 1,024, the north row first, has these posts in all its columns.
 fn has_rows(raster: &[u8]) -> bool {
     for (from_north, row) in raster.chunks(2048).enumerate() {
-        let post = interpolated(1023 - from_north.min(1023)).to_le_bytes();
+        let post = interpolate(1023 - from_north.min(1023)).to_le_bytes();
         for found in row.chunks(2) {
             if found != post.as_slice() {
                 return false;

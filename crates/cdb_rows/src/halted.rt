@@ -67,7 +67,7 @@ fn step(engine: &mut Engine, disk: &mut MemDisk) -> Result<Progress, AdvanceErro
 }
 
 /// An engine that has made the first step of a publication, whose source file is taken away then.
-fn robbed(alloc: Global, disk: &mut MemDisk) -> Result<Engine, Fail> {
+fn rob(alloc: Global, disk: &mut MemDisk) -> Result<Engine, Fail> {
     let mut engine = open(alloc, disk)?;
     submit(alloc, &mut engine)?;
     if publish(alloc, &mut engine, disk).is_some() {
@@ -92,7 +92,7 @@ const STEPS: [Result<Progress, AdvanceError>; 2] = [
 #[test]
 fn a_source_that_is_gone_halts_the_writer(rt: HostRuntime) -> Result<(), Fail> {
     let mut disk = new_disk(rt.alloc(), 0)?;
-    let mut engine = robbed(rt.alloc(), &mut disk)?;
+    let mut engine = rob(rt.alloc(), &mut disk)?;
     for answer in STEPS {
         assert_eq!(rt; step(&mut engine, &mut disk), answer);
     }

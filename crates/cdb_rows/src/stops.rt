@@ -60,7 +60,7 @@ fn served_at(alloc: Global, disk: &mut MemDisk) -> Result<Option<u32>, Fail> {
 
 /// Runs a script over the disk, which is cut off after so many calls; then what a crash leaves, how the
 /// run ended and what it wrote.
-fn stopped(
+fn stop(
     alloc: Global,
     disk: MemDisk,
     script: &[u8],
@@ -78,7 +78,7 @@ fn versions_after(alloc: Global, calls: u64) -> Result<([u32; 3], bool), Fail> {
     let mut versions = [0; 3];
     let mut published = false;
     for (version, pick) in versions.iter_mut().zip(PICKS) {
-        let (mut disk, _, output) = stopped(alloc, first_store(alloc)?, SECOND, calls, pick)?;
+        let (mut disk, _, output) = stop(alloc, first_store(alloc)?, SECOND, calls, pick)?;
         published = output.written().ends_with(b"published 2\n".as_slice());
         *version = opens_at(alloc, &mut disk)?.ok_or("the store doesn't open at a version")?;
     }
@@ -120,11 +120,11 @@ const MIDDLE: u64 = 40;
 fn recovers(alloc: Global, calls: u64, left: Pick) -> Result<(bool, bool), Fail> {
     let (mut all, mut whole) = (true, false);
     for pick in PICKS {
-        let (mut disk, _, _) = stopped(alloc, first_store(alloc)?, SECOND, MIDDLE, left)?;
+        let (mut disk, _, _) = stop(alloc, first_store(alloc)?, SECOND, MIDDLE, left)?;
         if disk.first_under(&version_folder(2))?.is_none() {
             return Err("nothing of the second publication is left".into());
         }
-        let (mut disk, status, _) = stopped(alloc, disk, b"versions\n", calls, pick)?;
+        let (mut disk, status, _) = stop(alloc, disk, b"versions\n", calls, pick)?;
         whole = status == Status::Done;
         all = all && opens_at(alloc, &mut disk)? == Some(1);
     }

@@ -56,7 +56,7 @@ pub const BIG: &[u8; 218] = b"\
     \x00\x0a\x00\x14";
 
 /// The file `LITTLE` with another byte at one place.
-pub fn changed(alloc: Global, place: usize, byte: u8) -> Result<Vec<u8>, Fail> {
+pub fn change(alloc: Global, place: usize, byte: u8) -> Result<Vec<u8>, Fail> {
     let mut bytes = Vec::from_slice(alloc, LITTLE)?;
     if place < bytes.len() {
         bytes[place] = byte;

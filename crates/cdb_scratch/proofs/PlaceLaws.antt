@@ -11,7 +11,7 @@ use Rattle.cdb_source.specs.declared.head.SourceHead.{SourceHead}
 use Rattle.cdb_source.specs.Sample.{IsBefore, IsInBox, corner_of, box_height, box_width}
 use Rattle.cdb_source.specs.Reached.{source_height}
 use Rattle.cdb_touch.proofs.AxisLaws.{IsFirst, first_least}
-use Rattle.cdb_scratch.specs.Cells.{HasMultiple, HasPlace, past_edge, place_of, inset_of, ReachesCell}
+use Rattle.cdb_scratch.specs.Cells.{HasMultiple, HasPlaceOnGrid, past_edge, place_of, inset_at, ReachesCell}
 
 pub multiple_from_first : (step low high first : ℕ) → IsFirst step low first → first < high → HasMultiple step low high
 multiple_from_first step low high first f lt = record { at = first; multiple = f.multiple; from = f.above; below = lt }
@@ -35,7 +35,7 @@ edge_before Elevation x far b = omega arith
 edge_before Material x far b = b
 
 place_from_multiple : (kind : Kind) (step inset near far low high : ℕ) → HasMultiple step (max (near - inset) low) (min (past_edge kind far - inset) high)
-    → HasPlace kind step inset near far low high
+    → HasPlaceOnGrid kind step inset near far low high
 place_from_multiple kind step inset near far low high m =
     let a = m.from in let b = m.below in
     let lt : m.at + inset < past_edge kind far = omega arith in
@@ -48,7 +48,7 @@ place_from_multiple kind step inset near far low high m =
       before_far = edge_before kind (m.at + inset) far lt;
     }
 
-multiple_from_place : (kind : Kind) (step inset near far low high : ℕ) → HasPlace kind step inset near far low high
+multiple_from_place : (kind : Kind) (step inset near far low high : ℕ) → HasPlaceOnGrid kind step inset near far low high
     → HasMultiple step (max (near - inset) low) (min (past_edge kind far - inset) high)
 multiple_from_place kind step inset near far low high p =
     let a = p.from in let b = p.below in let e = p.after_near in
@@ -56,7 +56,7 @@ multiple_from_place kind step inset near far low high p =
     record { at = p.at; multiple = p.multiple; from = omega arith; below = omega arith }
 
 pub place_by_multiple : (kind : Kind) (step inset near far low high s m p t n : ℕ) (B : Type 0) → s ≡ near - inset → m ≡ max s low → p ≡ past_edge kind far → t ≡ p - inset → n ≡ min t high
-    → (B ↔ HasMultiple step m n) → (B ↔ HasPlace kind step inset near far low high)
+    → (B ↔ HasMultiple step m n) → (B ↔ HasPlaceOnGrid kind step inset near far low high)
 place_by_multiple kind step inset near far low high s m p t n B es em ep et en i =
     let lower : m ≡ max (near - inset) low = em ∙ ap (λ k. max k low) es in
     let upper : n ≡ min (past_edge kind far - inset) high = en ∙ ap (λ k. min k high) (et ∙ ap (λ k. k - inset) ep) in
@@ -66,11 +66,11 @@ place_by_multiple kind step inset near far low high s m p t n B es em ep et en i
       (λ h. j.1 (multiple_from_place kind step inset near far low high h)),
     )
 
-place_north : (kind : Kind) (h : ℕ) (c : Place) → (place_of kind h c).north ≡ c.north + inset_of kind h
+place_north : (kind : Kind) (h : ℕ) (c : Place) → (place_of kind h c).north ≡ c.north + inset_at kind h
 place_north Elevation h c = omega arith
 place_north Material h c = omega arith
 
-place_east : (kind : Kind) (h : ℕ) (c : Place) → (place_of kind h c).east ≡ c.east + width_of c * inset_of kind h
+place_east : (kind : Kind) (h : ℕ) (c : Place) → (place_of kind h c).east ≡ c.east + width_of c * inset_at kind h
 place_east Elevation h c = omega arith
 place_east Material h c = one_time c.east (width_of c * step (h - 1))
   where
@@ -79,16 +79,16 @@ place_east Material h c = one_time c.east (width_of c * step (h - 1))
 
 -- a row and a column of places of a source in a cell
 abbrev pub Row : ℕ → Place → SourceHead → Type 0
-Row h c head = HasPlace head.kind (step (source_height head)) (inset_of head.kind (source_height head)) (corner_of head).north ((corner_of head).north + box_height head) c.north (c.north + step h)
+Row h c head = HasPlaceOnGrid head.kind (step (source_height head)) (inset_at head.kind (source_height head)) (corner_of head).north ((corner_of head).north + box_height head) c.north (c.north + step h)
 
 abbrev pub Column : ℕ → Place → SourceHead → ℕ → Type 0
-Column h c head w = HasPlace head.kind (w * step (source_height head)) (w * inset_of head.kind (source_height head)) (corner_of head).east ((corner_of head).east + box_width head) c.east (c.east + w * step h)
+Column h c head w = HasPlaceOnGrid head.kind (w * step (source_height head)) (w * inset_at head.kind (source_height head)) (corner_of head).east ((corner_of head).east + box_width head) c.east (c.east + w * step h)
 
 pub row_in_cell : (kind : Kind) (h : ℕ) (c : Place) (head : SourceHead) → ReachesCell kind h c head → Row h c head
 row_in_cell kind h c head r =
     let k : ℕ = source_height head in
     let box : IsInBox head (place_of head.kind k r.corner) = subst (λ j. IsInBox head (place_of j k r.corner)) (sym r.kind_is) r.in_box in
-    let e : (place_of head.kind k r.corner).north ≡ r.corner.north + inset_of head.kind k = place_north head.kind k r.corner in
+    let e : (place_of head.kind k r.corner).north ≡ r.corner.north + inset_at head.kind k = place_north head.kind k r.corner in
     record {
       at = r.corner.north;
       multiple = r.on_grid.on_row;
@@ -103,8 +103,8 @@ column_in_cell kind h c head w le corner same r =
     let k : ℕ = source_height head in
     let there : width_of r.corner ≡ w = cell_width h c r.corner le corner r.in_cell.south r.in_cell.north ∙ sym same in
     let box : IsInBox head (place_of head.kind k r.corner) = subst (λ j. IsInBox head (place_of j k r.corner)) (sym r.kind_is) r.in_box in
-    let e : (place_of head.kind k r.corner).east ≡ r.corner.east + w * inset_of head.kind k =
-    place_east head.kind k r.corner ∙ ap (λ m. r.corner.east + m * inset_of head.kind k) there in
+    let e : (place_of head.kind k r.corner).east ≡ r.corner.east + w * inset_at head.kind k =
+    place_east head.kind k r.corner ∙ ap (λ m. r.corner.east + m * inset_at head.kind k) there in
     record {
       at = r.corner.east;
       multiple = subst (λ m. m * step k ∣ r.corner.east) there r.on_grid.on_column;
@@ -122,9 +122,9 @@ cell_from_axes kind h c head w le corner same kinds fine row column =
     let there : w ≡ width_of p = same ∙ sym (cell_width h c p le corner row.from row.below) in
     let ends : (c.north + step h ≤ 180 * degree) × (c.east + step_east h c ≤ 360 * degree) = cell_within h c le corner in
     let below_east : column.at < c.east + step_east h c = subst (λ m. column.at < c.east + m * step h) same column.below in
-    let n : (place_of head.kind k p).north ≡ row.at + inset_of head.kind k = place_north head.kind k p in
-    let e : (place_of head.kind k p).east ≡ column.at + w * inset_of head.kind k =
-    place_east head.kind k p ∙ ap (λ m. column.at + m * inset_of head.kind k) (sym there) in
+    let n : (place_of head.kind k p).north ≡ row.at + inset_at head.kind k = place_north head.kind k p in
+    let e : (place_of head.kind k p).east ≡ column.at + w * inset_at head.kind k =
+    place_east head.kind k p ∙ ap (λ m. column.at + m * inset_at head.kind k) (sym there) in
     let box : IsInBox head (place_of head.kind k p) = record {
       south = subst (λ m. (corner_of head).north ≤ m) (sym n) row.after_near;
       north = subst (λ m. IsBefore head.kind m ((corner_of head).north + box_height head)) (sym n) row.before_far;

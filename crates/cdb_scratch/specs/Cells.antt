@@ -23,9 +23,9 @@ place_of Elevation h c = c
 place_of Material h c = centre h c
 
 -- how far north of the corner that is
-abbrev pub inset_of : Kind → ℕ → ℕ
-inset_of Elevation h = 0
-inset_of Material h = step (h - 1)
+abbrev pub inset_at : Kind → ℕ → ℕ
+inset_at Elevation h = 0
+inset_at Material h = step (h - 1)
 
 -- one past the greatest number that isn't past the far edge of a box
 abbrev pub past_edge : Kind → ℕ → ℕ
@@ -34,7 +34,7 @@ past_edge Material far = far
 
 -- along one axis: a corner, which is a multiple of a step, stands from low on and below high, and its place, an inset
 -- further, lies in the box of a source
-pub record HasPlace (kind : Kind) (step inset near far low high : ℕ) : Type 0 where
+pub record HasPlaceOnGrid (kind : Kind) (step inset near far low high : ℕ) : Type 0 where
   pub at : ℕ
   pub multiple : step ∣ at
   pub from : low ≤ at

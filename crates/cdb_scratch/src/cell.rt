@@ -70,7 +70,7 @@ fn own(which: Summary, sources: &[Source], height: u32, north: u64, east: u64) -
 }
 
 /// The summary of a cell's own value and those of its four finer cells.
-fn combined(which: Summary, own: Option<i16>, four: &Four) -> Option<i16>
+fn combine(which: Summary, own: Option<i16>, four: &Four) -> Option<i16>
     ensures { result ≡ combined which own four.now }
 {
     match which {
@@ -114,7 +114,7 @@ fn summary_of(which: Summary, sources: &[Source], height: u32, north: u64, east:
         north_west,
         north_east,
     };
-    combined(which, own, &four)
+    combine(which, own, &four)
 }
 
 /// The value of the cell of a height at a corner.

@@ -12,7 +12,7 @@ use cdb_source::{Kind, Source, kind_of};
 use cdb_touch::reached;
 
 /// The number by which a frame of a kind has a value, or none.
-fn coded(kind: Kind, value: Option<i16>) -> i16
+fn code(kind: Kind, value: Option<i16>) -> i16
     ensures { result ≡ coded kind value }
 {
     match value {
@@ -29,7 +29,7 @@ fn number(sources: &[Source], tile: &Tile, row: u32, col: u32) -> i16
 {
     let (north, east) = corner(tile, row, col);
     let value = value(tile.family, sources, height(tile.level), north, east);
-    coded(kind_of(tile.family), value)
+    code(kind_of(tile.family), value)
 }
 
 /// Writes the numbers of one row.

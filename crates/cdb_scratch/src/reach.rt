@@ -5,7 +5,7 @@ ghost use Rattle.cdb_grid.specs.Grid.{IsCorner};
 ghost use Rattle.cdb_source.specs.declared.kind.Kind.TheVariants.{Elevation, Material};
 ghost use Rattle.cdb_source.specs.Sample.{corner_of, box_height, box_width};
 ghost use Rattle.cdb_source.specs.Reached.{source_height};
-ghost use Rattle.cdb_scratch.specs.Cells.{HasMultiple, HasPlace, past_edge, inset_of, ReachesCell, CellReached};
+ghost use Rattle.cdb_scratch.specs.Cells.{HasMultiple, HasPlaceOnGrid, past_edge, inset_at, ReachesCell, CellReached};
 
 use crate::places::width;
 use cdb_grid::units;
@@ -39,7 +39,7 @@ fn has_place(kind: Kind, step: u64, inset: u64, near: u64, far: u64, low: u64, h
     requires near { near + step < 2 ^ 60 }
     requires low { low + step < 2 ^ 60 }
     requires far { far < 2 ^ 60 }
-    ensures { IsTrue result ↔ HasPlace kind step inset near far low high }
+    ensures { IsTrue result ↔ HasPlaceOnGrid kind step inset near far low high }
 {
     has_multiple(
         step,
@@ -52,7 +52,7 @@ fn has_place(kind: Kind, step: u64, inset: u64, near: u64, far: u64, low: u64, h
 fn inset(kind: Kind, height: u32) -> u64
     requires least { 1 ≤ height }
     requires most { height ≤ 34 }
-    ensures { result ≡ inset_of kind height }
+    ensures { result ≡ inset_at kind height }
 {
     match kind {
         Kind::Elevation => 0,
@@ -65,7 +65,7 @@ fn has_row(head: &SourceHead, height: u32, north: u64) -> bool
     requires most { height ≤ 34 }
     requires north { north < 180 * degree }
     ensures { let head = head.now in let own = source_height head in
-        IsTrue result ↔ HasPlace head.kind (step own) (inset_of head.kind own) (corner_of head).north
+        IsTrue result ↔ HasPlaceOnGrid head.kind (step own) (inset_at head.kind own) (corner_of head).north
         ((corner_of head).north + box_height head) north (north + step height) }
 {
     let own = units::height(head.level);
@@ -88,7 +88,7 @@ fn has_column(head: &SourceHead, height: u32, width: u64, east: u64) -> bool
     requires width { width ≤ 12 }
     requires east { east < 360 * degree }
     ensures { let head = head.now in let own = source_height head in
-        IsTrue result ↔ HasPlace head.kind (width * step own) (width * inset_of head.kind own)
+        IsTrue result ↔ HasPlaceOnGrid head.kind (width * step own) (width * inset_at head.kind own)
         (corner_of head).east ((corner_of head).east + box_width head) east (east + width * step height) }
 {
     let own = units::height(head.level);

@@ -86,7 +86,7 @@ fn four_posts(
 }
 
 /// Whether the tile of a family at the geocell's corner is reached, and its first numbers, the south row first.
-fn built(sources: &[Source], family: Family, level: i32) -> Option<(bool, [i16; 4])> {
+fn build_tile(sources: &[Source], family: Family, level: i32) -> Option<(bool, [i16; 4])> {
     let level = Level::new(level)?;
     let tile = tile_at(
         family,
@@ -106,11 +106,11 @@ fn built(sources: &[Source], family: Family, level: i32) -> Option<(bool, [i16; 
 #[test]
 fn one_source(rt: HostRuntime) -> Result<(), Fail> {
     let sources = [four_posts(rt.alloc(), Kind::Elevation, &HALF, [30, 40], [10, 20])?];
-    assert!(rt; built(&sources, Family::Elev, -9) == Some((true, [10, 20, 30, 40])));
-    assert!(rt; built(&sources, Family::Elev, -10) == Some((true, [10, 0, 0, 0])));
-    assert!(rt; built(&sources, Family::Low, -10) == Some((true, [10, 0, 0, 0])));
-    assert!(rt; built(&sources, Family::High, -10) == Some((true, [40, 0, 0, 0])));
-    assert!(rt; built(&sources, Family::High, -9) == Some((true, [10, 20, 30, 40])));
+    assert!(rt; build_tile(&sources, Family::Elev, -9) == Some((true, [10, 20, 30, 40])));
+    assert!(rt; build_tile(&sources, Family::Elev, -10) == Some((true, [10, 0, 0, 0])));
+    assert!(rt; build_tile(&sources, Family::Low, -10) == Some((true, [10, 0, 0, 0])));
+    assert!(rt; build_tile(&sources, Family::High, -10) == Some((true, [40, 0, 0, 0])));
+    assert!(rt; build_tile(&sources, Family::High, -9) == Some((true, [10, 20, 30, 40])));
     Ok(())
 }
 
@@ -119,18 +119,18 @@ fn a_newer_coarser_source(rt: HostRuntime) -> Result<(), Fail> {
     let finer = four_posts(rt.alloc(), Kind::Elevation, &HALF, [30, 40], [10, 20])?;
     let coarser = one_post(rt.alloc(), Kind::Elevation, &WHOLE, 99)?;
     let sources = [finer, coarser];
-    assert!(rt; built(&sources, Family::Elev, -10) == Some((true, [10, 0, 0, 0])));
-    assert!(rt; built(&sources, Family::High, -10) == Some((true, [40, 0, 0, 0])));
+    assert!(rt; build_tile(&sources, Family::Elev, -10) == Some((true, [10, 0, 0, 0])));
+    assert!(rt; build_tile(&sources, Family::High, -10) == Some((true, [40, 0, 0, 0])));
     Ok(())
 }
 
 #[test]
 fn a_source_of_the_finest_level(rt: HostRuntime) -> Result<(), Fail> {
     let sources = [one_post(rt.alloc(), Kind::Elevation, &CORNER, 7)?];
-    assert!(rt; built(&sources, Family::Elev, -10) == Some((true, [-32768, 0, 0, 0])));
-    assert!(rt; built(&sources, Family::Low, -10) == Some((true, [7, 0, 0, 0])));
-    assert!(rt; built(&sources, Family::High, -10) == Some((true, [7, 0, 0, 0])));
-    assert!(rt; built(&[], Family::Low, -10) == Some((false, [-32768, 0, 0, 0])));
+    assert!(rt; build_tile(&sources, Family::Elev, -10) == Some((true, [-32768, 0, 0, 0])));
+    assert!(rt; build_tile(&sources, Family::Low, -10) == Some((true, [7, 0, 0, 0])));
+    assert!(rt; build_tile(&sources, Family::High, -10) == Some((true, [7, 0, 0, 0])));
+    assert!(rt; build_tile(&[], Family::Low, -10) == Some((false, [-32768, 0, 0, 0])));
     Ok(())
 }
 
@@ -139,9 +139,9 @@ fn a_newer_source_of_one_level(rt: HostRuntime) -> Result<(), Fail> {
     let older = one_post(rt.alloc(), Kind::Elevation, &WHOLE, 99)?;
     let newer = one_post(rt.alloc(), Kind::Elevation, &WHOLE, -3)?;
     let sources = [older, newer];
-    assert!(rt; built(&sources, Family::Elev, -10) == Some((true, [-3, 0, 0, 0])));
-    assert!(rt; built(&sources, Family::High, -10) == Some((true, [-3, 0, 0, 0])));
-    assert!(rt; built(&sources, Family::Mat, -10) == Some((false, [0, 0, 0, 0])));
+    assert!(rt; build_tile(&sources, Family::Elev, -10) == Some((true, [-3, 0, 0, 0])));
+    assert!(rt; build_tile(&sources, Family::High, -10) == Some((true, [-3, 0, 0, 0])));
+    assert!(rt; build_tile(&sources, Family::Mat, -10) == Some((false, [0, 0, 0, 0])));
     Ok(())
 }
 
@@ -149,13 +149,13 @@ fn a_newer_source_of_one_level(rt: HostRuntime) -> Result<(), Fail> {
 fn materials(rt: HostRuntime) -> Result<(), Fail> {
     let two_of_each = four_posts(rt.alloc(), Kind::Material, &HALF, [3, 5], [5, 3])?;
     let sources = [two_of_each];
-    assert!(rt; built(&sources, Family::Mat, -10) == Some((true, [3, 0, 0, 0])));
-    assert!(rt; built(&sources, Family::Mat, -9) == Some((true, [5, 3, 3, 5])));
-    assert!(rt; built(&sources, Family::Elev, -10) == Some((false, [-32768, 0, 0, 0])));
+    assert!(rt; build_tile(&sources, Family::Mat, -10) == Some((true, [3, 0, 0, 0])));
+    assert!(rt; build_tile(&sources, Family::Mat, -9) == Some((true, [5, 3, 3, 5])));
+    assert!(rt; build_tile(&sources, Family::Elev, -10) == Some((false, [-32768, 0, 0, 0])));
     let one_alone = four_posts(rt.alloc(), Kind::Material, &HALF, [0, 0], [0, 7])?;
     let sources = [one_alone];
-    assert!(rt; built(&sources, Family::Mat, -10) == Some((true, [7, 0, 0, 0])));
-    assert!(rt; built(&sources, Family::Mat, -9) == Some((true, [0, 7, 0, 0])));
+    assert!(rt; build_tile(&sources, Family::Mat, -10) == Some((true, [7, 0, 0, 0])));
+    assert!(rt; build_tile(&sources, Family::Mat, -9) == Some((true, [0, 7, 0, 0])));
     Ok(())
 }
 
@@ -164,7 +164,7 @@ fn a_newer_coarser_material(rt: HostRuntime) -> Result<(), Fail> {
     let finer = four_posts(rt.alloc(), Kind::Material, &HALF, [3, 5], [5, 3])?;
     let coarser = one_post(rt.alloc(), Kind::Material, &WHOLE, 8)?;
     let sources = [finer, coarser];
-    assert!(rt; built(&sources, Family::Mat, -10) == Some((true, [3, 0, 0, 0])));
+    assert!(rt; build_tile(&sources, Family::Mat, -10) == Some((true, [3, 0, 0, 0])));
     Ok(())
 }
 
@@ -173,13 +173,13 @@ fn materials_of_one_level(rt: HostRuntime) -> Result<(), Fail> {
     let older = one_post(rt.alloc(), Kind::Material, &WHOLE, 8)?;
     let newer = one_post(rt.alloc(), Kind::Material, &WHOLE, 9)?;
     let sources = [older, newer];
-    assert!(rt; built(&sources, Family::Mat, -10) == Some((true, [9, 0, 0, 0])));
+    assert!(rt; build_tile(&sources, Family::Mat, -10) == Some((true, [9, 0, 0, 0])));
     Ok(())
 }
 
 #[test]
 fn a_material_beside_the_centre(rt: HostRuntime) -> Result<(), Fail> {
     let sources = [one_post(rt.alloc(), Kind::Material, &QUARTER, 4)?];
-    assert!(rt; built(&sources, Family::Mat, -10) == Some((false, [0, 0, 0, 0])));
+    assert!(rt; build_tile(&sources, Family::Mat, -10) == Some((false, [0, 0, 0, 0])));
     Ok(())
 }

@@ -5,7 +5,7 @@ use Rattle.std.proofs.Common.{inl, inr, add-one}
 use Rattle.std.proofs.lemmas.Bool.{cases_lt}
 use Rattle.cdb_pool.specs.Frames.{Frames, IsFirstFree, AllOut, with_out}
 use Rattle.cdb_pool.specs.declared.frame.Frame.{Frame}
-use Rattle.cdb_sessions.specs.Cache.{flags, with_flags, frame_of, numbered}
+use Rattle.cdb_sessions.specs.Cache.{flags, with_flags, frame_of, numbered_frames}
 
 front : (n k : ℕ) (ys : List Bool) → k < n → slice_get (replicate n true ++ ys) k ≡ Some true
 front zero k ys lt = absurd (omega arith)
@@ -58,7 +58,7 @@ taken p pool n k lt e first =
           ∙ ap (λ (out : List Bool). let q : Frames ℕ = record pool { out = out } in q) set;
     }
 
-pub more_numbered : (frames : List Frame) (frame : Frame) (n k : ℕ) → frames ≡ numbered n → frame.number ≡ k → k ≡ n
-    → frames ++ frame ∷ [] ≡ numbered (n + 1)
+pub more_numbered : (frames : List Frame) (frame : Frame) (n k : ℕ) → frames ≡ numbered_frames n → frame.number ≡ k → k ≡ n
+    → frames ++ frame ∷ [] ≡ numbered_frames (n + 1)
 more_numbered frames frame n k e f is =
-    ap (λ l. l ++ frame ∷ []) e ∙ ap (λ j. numbered n ++ frame_of j ∷ []) (f ∙ is) ∙ ap numbered (sym (add-one n))
+    ap (λ l. l ++ frame ∷ []) e ∙ ap (λ j. numbered_frames n ++ frame_of j ∷ []) (f ∙ is) ∙ ap numbered_frames (sym (add-one n))

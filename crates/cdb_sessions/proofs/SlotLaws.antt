@@ -14,7 +14,7 @@ use Rattle.std.proofs.lemmas.Bool.{ne_eqb}
 use Rattle.cdb_grid.specs.Order.{tile_cmp}
 use Rattle.cdb_sessions.specs.declared.slot.Pair.{Pair}
 use Rattle.cdb_sessions.specs.declared.slot.Slot.{Slot}
-use Rattle.cdb_sessions.specs.Slots.{Entry, fresh, fresh_slot, filled_slot, is_pair, holds, IsMoved, IsRenewed}
+use Rattle.cdb_sessions.specs.Slots.{NumberedSlot, fresh, fresh_slot, filled_slot, is_pair, holds, IsMoved, IsRenewed}
 use Rattle.cdb_sessions.proofs.Cuts.{found_at, none_found, Sole, sole}
 use Rattle.cdb_grid.proofs.TileOrder.{both, same_by_order}
 
@@ -32,7 +32,7 @@ length-fresh (suc n) = let on = length-fresh n in omega arith
 
 pub put_fresh : (n : ℕ) → n < 7 → put_entries nat_eq (lru_cache (fresh n) 7) n (fresh_slot n) ≡ fresh (suc n)
 put_fresh n lt =
-    ap (λ o. option_map_or (λ (e : Entry). (e.0, fresh_slot n) ∷ remove_entry (nat_eq n) (fresh n)) o
+    ap (λ o. option_map_or (λ (e : NumberedSlot). (e.0, fresh_slot n) ∷ remove_entry (nat_eq n) (fresh n)) o
     ((n, fresh_slot n) ∷ take 6 (fresh n))) (fresh_none n n (omega arith))
     ∙ ap (λ es. (n, fresh_slot n) ∷ es) (take_all 6 (fresh n) (omega (arith, length-fresh n)))
 
@@ -49,11 +49,11 @@ pair_is pair (Some kept) e =
 pub slot_is : (pair : Pair) (slot : Slot) → holds pair slot ≡ true → slot ≡ filled_slot slot.frame pair
 slot_is pair slot e = let same = pair_is pair slot.pair e in λ i. record { frame = slot.frame; pair = same i }
 
-pub moved : (pair : Pair) (es : List Entry) (e : Entry) → IsDistinct nat_eq (keys_of es)
-    → find (λ (f : Entry). holds pair f.1) es ≡ Some e
+pub moved : (pair : Pair) (es : List NumberedSlot) (e : NumberedSlot) → IsDistinct nat_eq (keys_of es)
+    → find (λ (f : NumberedSlot). holds pair f.1) es ≡ Some e
     → IsMoved pair e.1.frame es (promoted (nat_eq e.0) es)
 moved pair es e d found =
-    let at = found_at (λ (f : Entry). holds pair f.1) es e found in
+    let at = found_at (λ (f : NumberedSlot). holds pair f.1) es e found in
     let slot = slot_is pair e.1 at.passes in
     let one = sole at.before e.0 e.1 at.after (subst (λ l. IsDistinct nat_eq (keys_of l)) at.cut d) in
     let entry : (e.0, e.1) ≡ (e.0, filled_slot e.1.frame pair) = ap (λ s. (e.0, s)) slot in
@@ -63,25 +63,25 @@ moved pair es e d found =
       before = at.before;
       number = e.0;
       after = at.after;
-      was = at.cut ∙ ap (λ (f : Entry). at.before ++ f ∷ at.after) entry;
-      now = ap (promoted (nat_eq e.0)) at.cut ∙ front ∙ ap (λ (f : Entry). f ∷ (at.before ++ at.after)) entry;
+      was = at.cut ∙ ap (λ (f : NumberedSlot). at.before ++ f ∷ at.after) entry;
+      now = ap (promoted (nat_eq e.0)) at.cut ∙ front ∙ ap (λ (f : NumberedSlot). f ∷ (at.before ++ at.after)) entry;
     }
 
 -- ---- the last slot
 
-pub record LastOf (es : List Entry) : Type 0 where
-  pub before : List Entry
-  pub last : Entry
+pub record LastOf (es : List NumberedSlot) : Type 0 where
+  pub before : List NumberedSlot
+  pub last : NumberedSlot
   pub was : es ≡ before ++ last ∷ []
   pub entry : last_entry es ≡ Some last
   pub sole_one : Sole es last.0 last.1 before
 
-pub last_of : (es : List Entry) → 0 < length es → IsDistinct nat_eq (keys_of es) → LastOf es
+pub last_of : (es : List NumberedSlot) → 0 < length es → IsDistinct nat_eq (keys_of es) → LastOf es
 last_of es some d =
     let end = cut_end es some in
     let one = sole end.0 end.1.0 end.1.1 [] (subst (λ l. IsDistinct nat_eq (keys_of l)) end.2 d) in
     let all : Sole es end.1.0 end.1.1 (end.0 ++ []) =
-    subst (λ (l : List Entry). Sole l end.1.0 end.1.1 (end.0 ++ [])) (sym end.2) one in
+    subst (λ (l : List NumberedSlot). Sole l end.1.0 end.1.1 (end.0 ++ [])) (sym end.2) one in
     record {
       before = end.0;
       last = end.1;
@@ -104,7 +104,7 @@ renews old n s some d e =
     let l = last_of old.entries some d in
     let same : Some l.last ≡ Some (n, s) = sym l.entry ∙ e in
     let pair_same : l.last ≡ (n, s) = cc in
-    let key : l.last.0 ≡ n = ap (λ (f : Entry). f.0) pair_same in
+    let key : l.last.0 ≡ n = ap (λ (f : NumberedSlot). f.0) pair_same in
     let one = subst (λ k. Sole old.entries k l.last.1 l.before) key l.sole_one in
     record {
       there = subst (λ o. IsSome o) (sym one.value) refl;
@@ -120,16 +120,16 @@ renews old n s some d e =
             last = l.last;
             was = l.was;
             frame_is = ap (λ (t : Slot). t.frame) content_same;
-            now = put ∙ ap (λ es. lru_cache es old.cap) (entries ∙ ap (λ (f : Entry). f ∷ l.before) numbered);
+            now = put ∙ ap (λ es. lru_cache es old.cap) (entries ∙ ap (λ (f : NumberedSlot). f ∷ l.before) numbered);
           };
     }
 
 abbrev pub Found : Option (ℕ × ℕ) → Option (ℕ × ℕ) → Type 0
 Found a b = a ≡ b
 
-with_found : (pair : Pair) (es : List Entry) (n frame : ℕ) → IsDistinct nat_eq (keys_of es) → (o : Option Entry)
-    → find (λ (e : Entry). holds pair e.1) es ≡ o
-    → Found (Some (n, frame)) (option_map (λ (e : Entry). (e.0, e.1.frame)) o)
+with_found : (pair : Pair) (es : List NumberedSlot) (n frame : ℕ) → IsDistinct nat_eq (keys_of es) → (o : Option NumberedSlot)
+    → find (λ (e : NumberedSlot). holds pair e.1) es ≡ o
+    → Found (Some (n, frame)) (option_map (λ (e : NumberedSlot). (e.0, e.1.frame)) o)
     → IsMoved pair frame es (promoted (nat_eq n) es)
 with_found pair es n frame d None found e = absurd cc
 with_found pair es n frame d (Some f) found e =
@@ -140,18 +140,18 @@ with_found pair es n frame d (Some f) found e =
     let step = subst (λ k. IsMoved pair f.1.frame es (promoted (nat_eq k) es)) number is in
     subst (λ k. IsMoved pair k es (promoted (nat_eq n) es)) frame_same step
 
-none_with : (p : Entry → Bool) (es : List Entry) (o : Option Entry) → find p es ≡ o
-    → Found None (option_map (λ (e : Entry). (e.0, e.1.frame)) o) → AllByRecursion (λ e. p e ≡ false) es
+none_with : (p : NumberedSlot → Bool) (es : List NumberedSlot) (o : Option NumberedSlot) → find p es ≡ o
+    → Found None (option_map (λ (e : NumberedSlot). (e.0, e.1.frame)) o) → AllByRecursion (λ e. p e ≡ false) es
 none_with p es None found e = none_found p es found
 none_with p es (Some f) found e = absurd cc
 
-pub none_holds : (pair : Pair) (es : List Entry)
-    → Found None (option_map (λ (e : Entry). (e.0, e.1.frame)) (find (λ (e : Entry). holds pair e.1) es))
+pub none_holds : (pair : Pair) (es : List NumberedSlot)
+    → Found None (option_map (λ (e : NumberedSlot). (e.0, e.1.frame)) (find (λ (e : NumberedSlot). holds pair e.1) es))
     → AllByRecursion (λ e. holds pair e.1 ≡ false) es
-none_holds pair es e = none_with (λ (f : Entry). holds pair f.1) es (find (λ (f : Entry). holds pair f.1) es) refl e
+none_holds pair es e = none_with (λ (f : NumberedSlot). holds pair f.1) es (find (λ (f : NumberedSlot). holds pair f.1) es) refl e
 
 -- what a look-up among the slots told
-pub found_moved : (pair : Pair) (es : List Entry) (n frame : ℕ) → IsDistinct nat_eq (keys_of es)
-    → Found (Some (n, frame)) (option_map (λ (e : Entry). (e.0, e.1.frame)) (find (λ (e : Entry). holds pair e.1) es))
+pub found_moved : (pair : Pair) (es : List NumberedSlot) (n frame : ℕ) → IsDistinct nat_eq (keys_of es)
+    → Found (Some (n, frame)) (option_map (λ (e : NumberedSlot). (e.0, e.1.frame)) (find (λ (e : NumberedSlot). holds pair e.1) es))
     → IsMoved pair frame es (promoted (nat_eq n) es)
-found_moved pair es n frame d e = with_found pair es n frame d (find (λ (f : Entry). holds pair f.1) es) refl e
+found_moved pair es n frame d e = with_found pair es n frame d (find (λ (f : NumberedSlot). holds pair f.1) es) refl e

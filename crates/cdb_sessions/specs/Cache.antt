@@ -16,7 +16,7 @@ use Rattle.cdb_sessions.specs.declared.errors.TileError.{TileError}
 use Rattle.cdb_sessions.specs.declared.errors.TileError.TheVariants.{Fault, Unknown, Damaged}
 use Rattle.cdb_sessions.specs.declared.slot.Pair.{Pair}
 use Rattle.cdb_sessions.specs.declared.slot.Slot.{Slot}
-use Rattle.cdb_sessions.specs.Slots.{Entry}
+use Rattle.cdb_sessions.specs.Slots.{NumberedSlot}
 
 -- how many bytes the file of a tile has: a head of 186 bytes and the raster
 abbrev pub file_length : Tile → ℕ
@@ -39,21 +39,21 @@ kept_with pool frame None = []
 kept_with pool frame (Some pair) =
     record { pair = pair; bytes = take (file_length pair.tile) (contents pool frame) } ∷ []
 
-abbrev pub kept_one : Frames ℕ → Entry → List Kept
+abbrev pub kept_one : Frames ℕ → NumberedSlot → List Kept
 kept_one pool e = kept_with pool e.1.frame e.1.pair
 
-abbrev pub kept_in : Frames ℕ → List Entry → List Kept
-kept_in pool entries = flat_map (kept_one pool) entries
+abbrev pub kept_files : Frames ℕ → List NumberedSlot → List Kept
+kept_files pool entries = flat_map (kept_one pool) entries
 
-abbrev pub cache_of : Frames ℕ → List Entry → ℕ → Cache
-cache_of pool entries spare = record { kept = kept_in pool entries; spare = contents pool spare }
+abbrev pub cache_of : Frames ℕ → List NumberedSlot → ℕ → Cache
+cache_of pool entries spare = record { kept = kept_files pool entries; spare = contents pool spare }
 
 -- the file is not among those that are kept
 abbrev pub HasNone : Pair → List Kept → Type 0
 HasNone pair kept = AllByRecursion (λ k. k.pair ≡ pair → ⊥) kept
 
 -- a file that was kept is the first now
-pub record IsFront (pair : Pair) (old new : List Kept) : Type 0 where
+pub record IsMovedToFront (pair : Pair) (old new : List Kept) : Type 0 where
   pub before : List Kept
   pub bytes : List ℕ
   pub after : List Kept
@@ -62,7 +62,7 @@ pub record IsFront (pair : Pair) (old new : List Kept) : Type 0 where
 
 -- whether a file is kept, and what becomes of the files then
 abbrev pub IsUsed : Pair → Cache → Cache → Bool → Type 0
-IsUsed pair old new true = IsFront pair old.kept new.kept
+IsUsed pair old new true = IsMovedToFront pair old.kept new.kept
 IsUsed pair old new false = HasNone pair old.kept × (new ≡ old)
 
 -- ---- what holds of the parts
@@ -74,25 +74,25 @@ pub record IsPooled (pool : Frames ℕ) : Type 0 where
   pub out : pool.out ≡ replicate 8 true
 
 -- the frames of slots
-abbrev pub frames_of : List Entry → List ℕ
-frames_of entries = map (λ (e : Entry). e.1.frame) entries
+abbrev pub frames_of : List NumberedSlot → List ℕ
+frames_of entries = map (λ (e : NumberedSlot). e.1.frame) entries
 
 -- a slot without a file has none with a file behind it
-abbrev pub FilesFirst : List Entry → Type 0
+abbrev pub FilesFirst : List NumberedSlot → Type 0
 FilesFirst [] = Unit {0}
-FilesFirst (e ∷ es) = (e.1.pair ≡ None → AllByRecursion (λ (f : Entry). f.1.pair ≡ None) es) × FilesFirst es
+FilesFirst (e ∷ es) = (e.1.pair ≡ None → AllByRecursion (λ (f : NumberedSlot). f.1.pair ≡ None) es) × FilesFirst es
 
 -- so many frames, by their numbers
 abbrev pub frame_of : ℕ → Frame
 frame_of n = record { number = n }
 
-abbrev pub numbered : ℕ → List Frame
-numbered zero = []
-numbered (suc n) = numbered n ++ frame_of n ∷ []
+abbrev pub numbered_frames : ℕ → List Frame
+numbered_frames zero = []
+numbered_frames (suc n) = numbered_frames n ++ frame_of n ∷ []
 
 pub record IsCache (pool : Frames ℕ) (frames : List Frame) (slots : LruCache ℕ Slot) (spare : ℕ) : Type 0 where
   pub pooled : IsPooled pool
-  pub all_frames : frames ≡ numbered 8
+  pub all_frames : frames ≡ numbered_frames 8
   pub count : length slots.entries ≡ 7
   pub cap : slots.cap ≡ 7
   pub apart : IsDistinct nat_eq (spare ∷ frames_of slots.entries)

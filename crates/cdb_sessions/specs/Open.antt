@@ -28,15 +28,15 @@ abbrev pub session : ℕ → ℕ → Session
 session id version = record { id = id; version = version }
 
 -- a session of the next number is open now; 64 are open already; memory was refused
-abbrev pub IsOpened : ℕ → Open → Open → Result ℕ SessionError → Type 0
-IsOpened version old new (Ok id) =
+abbrev pub IsSessionOpened : ℕ → Open → Open → Result ℕ SessionError → Type 0
+IsSessionOpened version old new (Ok id) =
     (length old.list < 64) × (id ≡ old.opened + 1)
     × (new ≡ record { list = old.list ++ session id version ∷ []; opened = id })
-IsOpened version old new (Err Many) = (64 ≤ length old.list) × (new ≡ old)
-IsOpened version old new (Err Memory) = (length old.list < 64) × (new ≡ old)
+IsSessionOpened version old new (Err Many) = (64 ≤ length old.list) × (new ≡ old)
+IsSessionOpened version old new (Err Memory) = (length old.list < 64) × (new ≡ old)
 
 -- a session is open no more; none of the number is open
-abbrev pub IsClosed : ℕ → Open → Open → Result Unit Unknown → Type 0
-IsClosed id old new (Ok _) =
+abbrev pub IsSessionClosed : ℕ → Open → Open → Result Unit Unknown → Type 0
+IsSessionClosed id old new (Ok _) =
     IsSome (session_of id old.list) × (new ≡ record { list = without id old.list; opened = old.opened })
-IsClosed id old new (Err _) = (session_of id old.list ≡ None) × (new ≡ old)
+IsSessionClosed id old new (Err _) = (session_of id old.list ≡ None) × (new ≡ old)

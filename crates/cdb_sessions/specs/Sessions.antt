@@ -10,7 +10,7 @@ use Rattle.cdb_model.specs.declared.session.Session.{Session}
 use Rattle.cdb_chain.specs.Versions.{IsFound}
 use Rattle.cdb_chain.specs.Versions.{Versions as Chain}
 use Rattle.cdb_sessions.specs.Open.{Open}
-use Rattle.cdb_sessions.specs.Cache.{Kept, Cache, HasNone, IsFront, IsKept, IsDamaged}
+use Rattle.cdb_sessions.specs.Cache.{Kept, Cache, HasNone, IsMovedToFront, IsKept, IsDamaged}
 use Rattle.cdb_sessions.specs.declared.errors.TileError.{TileError}
 use Rattle.cdb_sessions.specs.declared.errors.TileError.TheVariants.{Fault, Unknown, Damaged}
 use Rattle.cdb_sessions.specs.declared.sessions.Reply.{Reply}
@@ -37,25 +37,25 @@ abbrev pub IsStill : Sessions → Sessions → Type 0
 IsStill old new = (new.kept ≡ old.kept) × (new.reply ≡ old.reply)
 
 -- the bytes of the first file, where the last request was answered with it
-abbrev pub first_bytes : List Kept → List ℕ
-first_bytes [] = []
-first_bytes (k ∷ ks) = k.bytes
+abbrev pub served_bytes : List Kept → List ℕ
+served_bytes [] = []
+served_bytes (k ∷ ks) = k.bytes
 
 abbrev pub reply_with : Bool → List Kept → List ℕ
-reply_with true kept = first_bytes kept
+reply_with true kept = served_bytes kept
 reply_with false kept = []
 
-abbrev pub state_of : Open → Cache → Bool → Sessions
-state_of o cache replied =
+abbrev pub sessions_state : Open → Cache → Bool → Sessions
+sessions_state o cache replied =
     record { list = o.list; opened = o.opened; kept = cache.kept; reply = reply_with replied cache.kept }
 
-abbrev pub IsReady : Cache → Bool → Type 0
-IsReady cache replied = replied ≡ true → 0 < length cache.kept
+abbrev pub HasReply : Cache → Bool → Type 0
+HasReply cache replied = replied ≡ true → 0 < length cache.kept
 
 -- ---- a request for a tile
 
 -- the session is open, and this is what its version has of the tile
-pub record Looks (list : List Session) (chain : Chain) (id : ℕ) (tile : Tile) (found : Option ℕ) : Type 0 where
+pub record LooksUp (list : List Session) (chain : Chain) (id : ℕ) (tile : Tile) (found : Option ℕ) : Type 0 where
   pub session : Session
   pub is_open : session_of id list ≡ Some session
   pub looked : IsFound chain session.version tile found
@@ -68,40 +68,40 @@ abbrev pub pair_of : ℕ → Tile → Pair
 pair_of version tile = record { version = version; tile = tile }
 
 -- the file is the first now, and its bytes are the reply: it was kept, and no call of the disk was made, or it was read
-pub record IsGiven {D : Type 0} (Tells : Type 0) (present : FileMap) (before after : D) (list : List Session)
+pub record IsServedFile {D : Type 0} (Tells : Type 0) (present : FileMap) (before after : D) (list : List Session)
     (chain : Chain) (id : ℕ) (tile : Tile) (old new : Sessions) (count : ℕ) : Type 0 where
   pub version : ℕ
-  pub looks : Looks list chain id tile (Some version)
-  pub files : (IsFront (pair_of version tile) old.kept new.kept × (after ≡ before))
+  pub looks : LooksUp list chain id tile (Some version)
+  pub files : (IsMovedToFront (pair_of version tile) old.kept new.kept × (after ≡ before))
       ⊎ (HasNone (pair_of version tile) old.kept × IsKept Tells present (pair_of version tile) old.kept new.kept)
-  pub reply : new.reply ≡ first_bytes new.kept
+  pub reply : new.reply ≡ served_bytes new.kept
   pub count_is : count ≡ length new.reply
 
 -- the file isn't kept
 pub record IsAsked (list : List Session) (chain : Chain) (id : ℕ) (tile : Tile) (old : Sessions) : Type 0 where
   pub version : ℕ
-  pub looks : Looks list chain id tile (Some version)
+  pub looks : LooksUp list chain id tile (Some version)
   pub absent : HasNone (pair_of version tile) old.kept
 
 -- it isn't there or has another size
 pub record IsFoundDamaged (Tells : Type 0) (present : FileMap) (list : List Session) (chain : Chain) (id : ℕ)
     (tile : Tile) (old : Sessions) (expected : ℕ) (found : Option ℕ) : Type 0 where
   pub version : ℕ
-  pub looks : Looks list chain id tile (Some version)
+  pub looks : LooksUp list chain id tile (Some version)
   pub absent : HasNone (pair_of version tile) old.kept
   pub damaged : IsDamaged Tells present (pair_of version tile) expected found
 
-abbrev pub IsServed : {D : Type 0} → Type 0 → FileMap → D → D → Chain → ℕ → Tile → Sessions → Sessions
+abbrev pub TileOutcome : {D : Type 0} → Type 0 → FileMap → D → D → Chain → ℕ → Tile → Sessions → Sessions
     → Result Reply TileError → Type 0
-IsServed Tells present before after chain id tile old new (Ok Missing) =
-    Looks old.list chain id tile None × IsEmpty old new × (after ≡ before)
-IsServed Tells present before after chain id tile old new (Ok (Bytes count)) =
-    IsGiven Tells present before after old.list chain id tile old new count
-IsServed Tells present before after chain id tile old new (Err Unknown) =
+TileOutcome Tells present before after chain id tile old new (Ok Missing) =
+    LooksUp old.list chain id tile None × IsEmpty old new × (after ≡ before)
+TileOutcome Tells present before after chain id tile old new (Ok (Bytes count)) =
+    IsServedFile Tells present before after old.list chain id tile old new count
+TileOutcome Tells present before after chain id tile old new (Err Unknown) =
     (session_of id old.list ≡ None) × IsEmpty old new × (after ≡ before)
-IsServed Tells present before after chain id tile old new (Err Fault) =
+TileOutcome Tells present before after chain id tile old new (Err Fault) =
     IsAsked old.list chain id tile old × IsEmpty old new
-IsServed Tells present before after chain id tile old new (Err (Damaged expected found)) =
+TileOutcome Tells present before after chain id tile old new (Err (Damaged expected found)) =
     IsFoundDamaged Tells present old.list chain id tile old expected found × IsEmpty old new
 
 -- ---- what the disk has
@@ -114,11 +114,11 @@ AreCurrent present kept = AllByRecursion (λ k. present (path k.pair.version k.p
 pub record ServesCurrent (present : FileMap) (list : List Session) (chain : Chain) (id : ℕ) (tile : Tile)
     (new : Sessions) (result : Result Reply TileError) : Type 0 where
   pub current : AreCurrent present new.kept
-  pub reply : (count : ℕ) → result ≡ Ok (Bytes count) → (version : ℕ) × Looks list chain id tile (Some version)
+  pub reply : (count : ℕ) → result ≡ Ok (Bytes count) → (version : ℕ) × LooksUp list chain id tile (Some version)
       × (present (path version tile) ≡ Some new.reply)
 
 abbrev pub RequestsStayCurrent : Type 0
 RequestsStayCurrent =
     (present : FileMap) (chain : Chain) (id : ℕ) (tile : Tile) (old new : Sessions) (result : Result Reply TileError)
-    → IsServed (Unit {0}) present (tt {0}) (tt {0}) chain id tile old new result → AreCurrent present old.kept
+    → TileOutcome (Unit {0}) present (tt {0}) (tt {0}) chain id tile old new result → AreCurrent present old.kept
     → ServesCurrent present old.list chain id tile new result

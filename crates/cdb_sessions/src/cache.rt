@@ -4,7 +4,7 @@ ghost use Rattle.std.specs.Prelude.{option_map, slice_get, IfOk, OnOk};
 ghost use Rattle.cdb_model.specs.Causes.{HasCause, Rose};
 ghost use Rattle.cdb_files.specs.Moments.{Rests};
 ghost use Rattle.cdb_files.specs.Whole.{IsOtherThan};
-ghost use Rattle.cdb_sessions.specs.Cache.{Kept, file_length, IsUsed, IsFileRead, IsReadFrom, numbered, with_flags};
+ghost use Rattle.cdb_sessions.specs.Cache.{Kept, file_length, IsUsed, IsFileRead, IsReadFrom, numbered_frames, with_flags};
 
 use crate::errors::TileError;
 use crate::file::file_length;
@@ -41,7 +41,7 @@ impl Model for Cache {
 /// Takes all frames of a pool of eight, in the order of their numbers.
 fn take_frames(alloc: Global, pool: &mut Pool<u8>) -> Result<Vec<Frame>, AllocError>
     requires { pool.old.out ≡ replicate 8 false }
-    ensures frames { IfOk result (λ frames. frames.items ≡ numbered 8) }
+    ensures frames { IfOk result (λ frames. frames.items ≡ numbered_frames 8) }
     ensures pool { OnOk result (pool.new ≡ with_flags pool.old 8) }
 {
     let mut frames = Vec::new(alloc);

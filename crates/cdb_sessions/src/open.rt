@@ -2,7 +2,7 @@
 ghost use Rattle.std.specs.Prelude.{◌≡◌, [], option_map};
 ghost use Rattle.cdb_model.specs.Sessions.{session_of};
 ghost use Rattle.cdb_model.specs.declared.session.Session.{Session};
-ghost use Rattle.cdb_sessions.specs.Open.{IsOpened, IsClosed};
+ghost use Rattle.cdb_sessions.specs.Open.{IsSessionOpened, IsSessionClosed};
 
 use crate::errors::{SessionError, Unknown};
 use indexmap::IndexMap;
@@ -43,7 +43,7 @@ impl OpenSessions {
 
     /// Opens a session at a version. Its number is one more than that of the last one.
     pub(crate) fn open(&mut self, version: u32) -> Result<u32, SessionError>
-        ensures opened { IsOpened version self.old self.new result }
+        ensures opened { IsSessionOpened version self.old self.new result }
     {
         if self.versions.len() >= MOST {
             return Err(SessionError::Many);
@@ -63,7 +63,7 @@ impl OpenSessions {
 
     /// Closes a session.
     pub(crate) fn close(&mut self, id: u32) -> Result<(), Unknown>
-        ensures { IsClosed id self.old self.new result }
+        ensures { IsSessionClosed id self.old self.new result }
     {
         let _count = self.versions.len();
         let Some(_) = self.versions.shift_remove(&id) else {

@@ -3,8 +3,8 @@ ghost use Rattle.cdb_model.specs.Causes.{Rose};
 ghost use Rattle.cdb_model.specs.Sessions.{session_of};
 ghost use Rattle.cdb_model.specs.declared.session.Session.{Session};
 ghost use Rattle.cdb_files.specs.Moments.{Rests};
-ghost use Rattle.cdb_sessions.specs.Open.{IsOpened, IsClosed};
-ghost use Rattle.cdb_sessions.specs.Sessions.{open_part, starts_empty, AreCurrent, IsServed, IsStill, ServesCurrent};
+ghost use Rattle.cdb_sessions.specs.Open.{IsSessionOpened, IsSessionClosed};
+ghost use Rattle.cdb_sessions.specs.Sessions.{open_part, starts_empty, AreCurrent, TileOutcome, IsStill, ServesCurrent};
 
 use crate::cache::Cache;
 use crate::errors::{SessionError, TileError, Unknown};
@@ -34,13 +34,13 @@ pub struct Sessions {
 }
 
 impl Model for Sessions {
-    ghost use Rattle.cdb_sessions.specs.Sessions.{Sessions as State, state_of, IsReady};
+    ghost use Rattle.cdb_sessions.specs.Sessions.{Sessions as State, sessions_state, HasReply};
 
     ghost Value = { State };
 
-    ghost view = { λ s. state_of s.open s.cache s.replied };
+    ghost view = { λ s. sessions_state s.open s.cache s.replied };
 
-    ghost invariant = { λ s. IsReady s.cache s.replied };
+    ghost invariant = { λ s. HasReply s.cache s.replied };
 }
 
 impl Sessions {
@@ -59,7 +59,7 @@ impl Sessions {
     /// Opens a session at a version, and gives its number: 1, 2, 3 and so on, none of which is used
     /// again. `Many` exactly where 64 are open.
     pub fn open(&mut self, version: u32) -> Result<u32, SessionError>
-        ensures opened { IsOpened version (open_part self.old) (open_part self.new) result }
+        ensures opened { IsSessionOpened version (open_part self.old) (open_part self.new) result }
         ensures still { IsStill self.old self.new }
     {
         self.open.open(version)
@@ -67,7 +67,7 @@ impl Sessions {
 
     /// Closes a session. `Unknown` exactly where none of this number is open.
     pub fn close(&mut self, id: u32) -> Result<(), Unknown>
-        ensures closed { IsClosed id (open_part self.old) (open_part self.new) result }
+        ensures closed { IsSessionClosed id (open_part self.old) (open_part self.new) result }
         ensures still { IsStill self.old self.new }
     {
         self.open.close(id)
@@ -89,7 +89,7 @@ impl Sessions {
         disk: &mut D,
     ) -> Result<Reply, TileError>
         ensures open { open_part self.new ≡ open_part self.old }
-        ensures served { IsServed D.tells (D.state disk.old).present disk.old disk.new chain.now id tile.now
+        ensures served { TileOutcome D.tells (D.state disk.old).present disk.old disk.new chain.now id tile.now
             self.old self.new result }
         ensures state { D.state disk.new ≡ D.state disk.old }
         ensures time { Rests (D.clock disk.old) (D.clock disk.new) (D.since disk.old) (D.since disk.new) }
@@ -129,7 +129,7 @@ impl Sessions {
         disk: &mut D,
     ) -> Result<Reply, TileError>
         ensures open { open_part self.new ≡ open_part self.old }
-        ensures served { IsServed D.tells (D.state disk.old).present disk.old disk.new chain.now id tile.now
+        ensures served { TileOutcome D.tells (D.state disk.old).present disk.old disk.new chain.now id tile.now
             self.old self.new result }
         ensures state { D.state disk.new ≡ D.state disk.old }
         ensures time { Rests (D.clock disk.old) (D.clock disk.new) (D.since disk.old) (D.since disk.new) }

@@ -2,7 +2,7 @@
 ghost use Rattle.std.specs.Prelude.{◌≡◌, ◌<◌, false, option_map, length, IfOk, MatchOption};
 ghost use Rattle.std.specs.List.{find, AllByRecursion};
 ghost use Rattle.lru.specs.LruCache.{lru_cache};
-ghost use Rattle.cdb_sessions.specs.Slots.{Entry, fresh, holds, IsMoved, IsRenewed};
+ghost use Rattle.cdb_sessions.specs.Slots.{NumberedSlot, fresh, holds, IsMoved, IsRenewed};
 
 use crate::slot::{Pair, Slot};
 use lru::LruCache;
@@ -44,8 +44,8 @@ pub fn has_pair(slot: &Slot, pair: &Pair) -> bool
 
 /// The number and the frame of the first slot that has this file.
 fn slot_with(slots: &Slots, pair: &Pair) -> Option<(u8, u8)>
-    ensures { result ≡ option_map (λ (e : Entry). (e.0, e.1.frame))
-        (find (λ (e : Entry). holds pair.now e.1) slots.now.entries) }
+    ensures { result ≡ option_map (λ (e : NumberedSlot). (e.0, e.1.frame))
+        (find (λ (e : NumberedSlot). holds pair.now e.1) slots.now.entries) }
 {
     for (number, slot) in slots.iter() {
         if has_pair(slot, pair) {
@@ -60,7 +60,7 @@ pub fn use_slot(slots: &mut Slots, pair: &Pair) -> Option<u8>
     ensures cap { slots.new.cap ≡ slots.old.cap }
     ensures moved { MatchOption result (slots.new ≡ slots.old)
         (λ frame. IsMoved pair.now frame slots.old.entries slots.new.entries) }
-    ensures absent { MatchOption result (AllByRecursion (λ (e : Entry). holds pair.now e.1 ≡ false) slots.old.entries)
+    ensures absent { MatchOption result (AllByRecursion (λ (e : NumberedSlot). holds pair.now e.1 ≡ false) slots.old.entries)
         (λ _. Unit {0}) }
 {
     let _count = slots.len();

@@ -183,7 +183,7 @@ fn each_session_has_its_version(rt: HostRuntime) -> Result<(), Fail> {
 }
 
 /// The refusal of a file of another size.
-fn damaged(expected: u64, found: Option<u64>) -> Result<Reply, TileError> {
+fn damage(expected: u64, found: Option<u64>) -> Result<Reply, TileError> {
     Err(TileError::Damaged { expected, found })
 }
 
@@ -231,8 +231,8 @@ fn failing_calls(alloc: Global) -> Result<([Result<Reply, TileError>; 3], usize)
 #[test]
 fn files_that_others_changed_and_calls_that_fail(rt: HostRuntime) -> Result<(), Fail> {
     let [short, absent] = changed_files(rt.alloc())?;
-    assert_eq!(rt; short, damaged(194, Some(5)));
-    assert_eq!(rt; absent, damaged(218, None));
+    assert_eq!(rt; short, damage(194, Some(5)));
+    assert_eq!(rt; absent, damage(218, None));
     let ([kept, other, again], count) = failing_calls(rt.alloc())?;
     assert_eq!(rt; kept, Ok(Reply::Bytes(188)));
     assert_eq!(rt; other, Err(TileError::Fault));

@@ -17,8 +17,8 @@ use Rattle.cdb_source.specs.declared.kind.Kind.TheVariants.{Elevation, Material}
 use Rattle.cdb_source.specs.declared.head.SourceHead.{SourceHead}
 use Rattle.cdb_source.specs.declared.source.Source.{Source}
 use Rattle.cdb_source.specs.Posts.{IsPost}
-use Rattle.cdb_source.specs.Texts.{first_bytes, head_text, front_text, post_bytes, posts_text, source_text}
-use Rattle.cdb_source.specs.Decoding.{post_count, IsOther, HasCutPosts, HasBadPost, HasBytesLeft, IsBadPost, FirstBad, Tells, TellsPost, GivesSource, first_bytes_bad, head_bad, posts_cut, post_bad, bytes_left}
+use Rattle.cdb_source.specs.Texts.{source_first_bytes, head_text, source_front_text, post_bytes, posts_text, source_text}
+use Rattle.cdb_source.specs.Decoding.{post_count, HasOtherFirstBytes, HasCutPosts, HasBadPost, HasBytesLeft, IsBadPost, FirstBadPart, SourceCause, TellsPost, GivesSource, first_bytes_bad, head_bad, posts_cut, post_bad, bytes_left}
 use Rattle.cdb_source.specs.declared.decode_error.DecodeError.{DecodeError}
 use Rattle.cdb_source.specs.declared.decode_error.DecodeError.TheVariants.{Memory, Bad}
 use Rattle.cdb_source.proofs.HeadLaws.{one_head, has_head}
@@ -26,21 +26,21 @@ use Rattle.cdb_source.proofs.TextLaws.{length-front_text, length-posts_text}
 
 -- ---- the head
 
-pub front_cut : (bytes : List ℕ) → bytes ≡ first_bytes ++ drop 8 bytes → length bytes < 52 → FirstBad bytes 8
+pub front_cut : (bytes : List ℕ) → bytes ≡ source_first_bytes ++ drop 8 bytes → length bytes < 52 → FirstBadPart bytes 8
 front_cut bytes begins short = head_bad (record {
   rest = drop 8 bytes;
   begins = begins;
-  never = λ head after e. let whole : length bytes ≡ 52 + length after = ap length e ∙ length-append (front_text head) after ∙ ap (λ n. n + length after) (length-front_text head) in omega arith;
+  never = λ head after e. let whole : length bytes ≡ 52 + length after = ap length e ∙ length-append (source_front_text head) after ∙ ap (λ n. n + length after) (length-front_text head) in omega arith;
 }) refl
 
-pub front_bad : (bytes front : List ℕ) → bytes ≡ first_bytes ++ drop 8 bytes → front ≡ take 52 bytes → ((head : SourceHead) → front ≡ front_text head → ⊥) → FirstBad bytes 8
+pub front_bad : (bytes front : List ℕ) → bytes ≡ source_first_bytes ++ drop 8 bytes → front ≡ take 52 bytes → ((head : SourceHead) → front ≡ source_front_text head → ⊥) → FirstBadPart bytes 8
 front_bad bytes front begins is never = head_bad (record {
   rest = drop 8 bytes;
   begins = begins;
-  never = λ head after e. never head (is ∙ ap (take 52) e ∙ take_at (front_text head) after 52 (length-front_text head));
+  never = λ head after e. never head (is ∙ ap (take 52) e ∙ take_at (source_front_text head) after 52 (length-front_text head));
 }) refl
 
-pub front_then : (bytes front : List ℕ) (head : SourceHead) → front ≡ take 52 bytes → front ≡ front_text head → bytes ≡ front_text head ++ drop 52 bytes
+pub front_then : (bytes front : List ℕ) (head : SourceHead) → front ≡ take 52 bytes → front ≡ source_front_text head → bytes ≡ source_front_text head ++ drop 52 bytes
 front_then bytes front head is spelled = sym (take-append-drop 52 bytes) ∙ ap (λ (f : List ℕ). f ++ drop 52 bytes) (sym is ∙ spelled)
 
 -- ---- the posts
@@ -75,11 +75,11 @@ allowed_more kind posts post all one = All-push (IsPost kind) posts post all one
 
 -- ---- texts that are equal
 
-pub same_front : (a b : SourceHead) (x y : List ℕ) → front_text a ++ x ≡ front_text b ++ y → (a ≡ b) × (x ≡ y)
+pub same_front : (a b : SourceHead) (x y : List ℕ) → source_front_text a ++ x ≡ source_front_text b ++ y → (a ≡ b) × (x ≡ y)
 same_front a b x y e =
-    let fronts : front_text a ≡ front_text b = sym (take_at (front_text a) x 52 (length-front_text a)) ∙ ap (take 52) e ∙ take_at (front_text b) y 52 (length-front_text b) in
-    let rests : x ≡ y = sym (drop_at (front_text a) x 52 (length-front_text a)) ∙ ap (drop 52) e ∙ drop_at (front_text b) y 52 (length-front_text b) in
-    (one_head (front_text a) a b (has_head (front_text a) a refl) (has_head (front_text a) b fronts), rests)
+    let fronts : source_front_text a ≡ source_front_text b = sym (take_at (source_front_text a) x 52 (length-front_text a)) ∙ ap (take 52) e ∙ take_at (source_front_text b) y 52 (length-front_text b) in
+    let rests : x ≡ y = sym (drop_at (source_front_text a) x 52 (length-front_text a)) ∙ ap (drop 52) e ∙ drop_at (source_front_text b) y 52 (length-front_text b) in
+    (one_head (source_front_text a) a b (has_head (source_front_text a) a refl) (has_head (source_front_text a) b fronts), rests)
 
 pub any_number : (kind : Kind) (z : ℤ) → IsPost kind z → IsPost Elevation z
 any_number Elevation z h = h
@@ -155,19 +155,19 @@ one_source a b e =
 
 -- ---- parts that exclude one another
 
-other_or_front : (bytes rest : List ℕ) (head : SourceHead) → IsOther bytes → bytes ≡ front_text head ++ rest → ⊥
-other_or_front bytes rest head other e = other.never (head_text head ++ rest) (e ∙ append_assoc first_bytes (head_text head) rest)
+other_or_front : (bytes rest : List ℕ) (head : SourceHead) → HasOtherFirstBytes bytes → bytes ≡ source_front_text head ++ rest → ⊥
+other_or_front bytes rest head other e = other.never (head_text head ++ rest) (e ∙ append_assoc source_first_bytes (head_text head) rest)
 
 -- the 52 bytes of the head, and two bytes for each post
 pub length-source_text : (source : Source) → length (source_text source) ≡ 52 + 2 * post_count source.head
-length-source_text source = length-append (front_text source.head) (posts_text source.posts) ∙ omega (arith, length-front_text source.head, length-posts_text source.posts, source.count)
+length-source_text source = length-append (source_front_text source.head) (posts_text source.posts) ∙ omega (arith, length-front_text source.head, length-posts_text source.posts, source.count)
 
 pub most-source_text : (source : Source) → length (source_text source) ≤ 33554484
 most-source_text source = let n = length-source_text source in let most = source.head.in_range.raster.posts_most in omega arith
 
 -- the head of a source's file, and what follows it
-source_front : (bytes more : List ℕ) (source : Source) → bytes ≡ source_text source ++ more → bytes ≡ front_text source.head ++ (posts_text source.posts ++ more)
-source_front bytes more source e = e ∙ append_assoc (front_text source.head) (posts_text source.posts) more
+source_front : (bytes more : List ℕ) (source : Source) → bytes ≡ source_text source ++ more → bytes ≡ source_front_text source.head ++ (posts_text source.posts ++ more)
+source_front bytes more source e = e ∙ append_assoc (source_front_text source.head) (posts_text source.posts) more
 
 -- bytes that begin with a source's file have whole posts
 whole_or_cut : (bytes more : List ℕ) (source : Source) → bytes ≡ source_text source ++ more → HasCutPosts bytes → ⊥
@@ -207,7 +207,7 @@ none_before kind text j k a b lt =
     a.refused (post_there kind b.posts a.posts a.number (post_bytes b.number ++ b.rest) a.rest b.allowed a.allowed a.a_number shorter parts)
 
 -- the file of a source has no bad part
-pub no_bad : (bytes : List ℕ) (place : ℕ) (source : Source) → bytes ≡ source_text source → FirstBad bytes place → ⊥
+pub no_bad : (bytes : List ℕ) (place : ℕ) (source : Source) → bytes ≡ source_text source → FirstBadPart bytes place → ⊥
 no_bad bytes place source e (first_bytes_bad other at) = other_or_front bytes (posts_text source.posts) source.head other e
 no_bad bytes place source e (head_bad bad at) = bad.never source.head (posts_text source.posts) e
 no_bad bytes place source e (posts_cut cut at) = whole_or_cut bytes [] source (e ∙ sym (append-nil (source_text source))) cut
@@ -218,7 +218,7 @@ no_bad bytes place source e (bytes_left left) =
     let counts : post_count left.source.head ≡ post_count source.head = ap post_count heads in
     omega (arith, ap length e, length-source_text left.source, length-source_text source)
 
-pub gives : (bytes : List ℕ) (r : Result Source DecodeError) → IfOk r (λ source. bytes ≡ source_text source) → IfErr r (Tells bytes) → (source : Source) → bytes ≡ source_text source → GivesSource source r
+pub gives : (bytes : List ℕ) (r : Result Source DecodeError) → IfOk r (λ source. bytes ≡ source_text source) → IfErr r (SourceCause bytes) → (source : Source) → bytes ≡ source_text source → GivesSource source r
 gives bytes (Ok given) spelled told source e = one_source given source (sym spelled ∙ e)
 gives bytes (Err Memory) spelled told source e = tt
 gives bytes (Err (Bad place)) spelled told source e = no_bad bytes place source e told
@@ -242,7 +242,7 @@ left_order bytes p q a b =
     let counts : post_count a.source.head ≡ post_count b.source.head = ap post_count heads in
     omega (arith, a.place_is, b.place_is, length-source_text a.source, length-source_text b.source)
 
-front_of_left : (bytes : List ℕ) (place : ℕ) (left : HasBytesLeft bytes place) → bytes ≡ front_text left.source.head ++ (posts_text left.source.posts ++ left.byte ∷ left.rest)
+front_of_left : (bytes : List ℕ) (place : ℕ) (left : HasBytesLeft bytes place) → bytes ≡ source_front_text left.source.head ++ (posts_text left.source.posts ++ left.byte ∷ left.rest)
 front_of_left bytes place left = source_front bytes (left.byte ∷ left.rest) left.source left.begins
 
 place_of_left : (bytes : List ℕ) (place : ℕ) → HasBytesLeft bytes place → 52 ≤ place
@@ -252,7 +252,7 @@ place_of_post : (bytes : List ℕ) (place : ℕ) → HasBadPost bytes place → 
 place_of_post bytes place bad = omega (arith, bad.place_is)
 
 -- no first bad part begins after another
-bad_order : (bytes : List ℕ) (p q : ℕ) → FirstBad bytes p → FirstBad bytes q → p ≤ q
+bad_order : (bytes : List ℕ) (p q : ℕ) → FirstBadPart bytes p → FirstBadPart bytes q → p ≤ q
 bad_order bytes p q (first_bytes_bad a at_a) b = omega arith
 bad_order bytes p q (head_bad a at_a) (first_bytes_bad b at_b) = absurd (b.never a.rest a.begins)
 bad_order bytes p q (head_bad a at_a) (head_bad b at_b) = omega arith
@@ -275,16 +275,16 @@ bad_order bytes p q (bytes_left a) (posts_cut b at_b) = absurd (whole_or_cut byt
 bad_order bytes p q (bytes_left a) (post_bad b) = absurd (whole_or_bad bytes (a.byte ∷ a.rest) a.source q a.begins b)
 bad_order bytes p q (bytes_left a) (bytes_left b) = left_order bytes p q a b
 
-pub one_bad_place : (bytes : List ℕ) (p q : ℕ) → FirstBad bytes p → FirstBad bytes q → p ≡ q
+pub one_bad_place : (bytes : List ℕ) (p q : ℕ) → FirstBadPart bytes p → FirstBadPart bytes q → p ≡ q
 one_bad_place bytes p q a b = le_antisymm (bad_order bytes p q a b) (bad_order bytes q p b a)
 
 -- ---- what stops a reading
 
-pub cut_posts : (bytes : List ℕ) (head : SourceHead) → bytes ≡ front_text head ++ drop 52 bytes → length (drop 52 bytes) < 2 * post_count head → FirstBad bytes 52
+pub cut_posts : (bytes : List ℕ) (head : SourceHead) → bytes ≡ source_front_text head ++ drop 52 bytes → length (drop 52 bytes) < 2 * post_count head → FirstBadPart bytes 52
 cut_posts bytes head begins short = posts_cut (record { head = head; rest = drop 52 bytes; begins = begins; cut = short }) refl
 
-pub wrong_post : (bytes text : List ℕ) (head : SourceHead) (k place : ℕ) → bytes ≡ front_text head ++ drop 52 bytes → 2 * post_count head ≤ length (drop 52 bytes) → text ≡ take (2 * post_count head) (drop 52 bytes)
-    → k < post_count head → IsBadPost head.kind text k → place ≡ 52 + 2 * k → FirstBad bytes place
+pub wrong_post : (bytes text : List ℕ) (head : SourceHead) (k place : ℕ) → bytes ≡ source_front_text head ++ drop 52 bytes → 2 * post_count head ≤ length (drop 52 bytes) → text ≡ take (2 * post_count head) (drop 52 bytes)
+    → k < post_count head → IsBadPost head.kind text k → place ≡ 52 + 2 * k → FirstBadPart bytes place
 wrong_post bytes text head k place begins whole is within bad at = post_bad (record {
   head = head;
   rest = drop 52 bytes;
@@ -307,12 +307,12 @@ wrong_post bytes text head k place begins whole is within bad at = post_bad (rec
 })
 
 -- the text of the posts and what follows it
-pub parts_are : (bytes text after : List ℕ) (head : SourceHead) (posts : List ℤ) → bytes ≡ front_text head ++ drop 52 bytes → text ≡ take (2 * post_count head) (drop 52 bytes) → after ≡ drop (2 * post_count head) (drop 52 bytes) → text ≡ posts_text posts
-    → bytes ≡ (front_text head ++ posts_text posts) ++ after
+pub parts_are : (bytes text after : List ℕ) (head : SourceHead) (posts : List ℤ) → bytes ≡ source_front_text head ++ drop 52 bytes → text ≡ take (2 * post_count head) (drop 52 bytes) → after ≡ drop (2 * post_count head) (drop 52 bytes) → text ≡ posts_text posts
+    → bytes ≡ (source_front_text head ++ posts_text posts) ++ after
 parts_are bytes text after head posts begins is rest spelled =
-    begins ∙ ap (λ (r : List ℕ). front_text head ++ r) (sym (take-append-drop (2 * post_count head) (drop 52 bytes)) ∙ rw (← is, ← rest, spelled) refl) ∙ sym (append_assoc (front_text head) (posts_text posts) after)
+    begins ∙ ap (λ (r : List ℕ). source_front_text head ++ r) (sym (take-append-drop (2 * post_count head) (drop 52 bytes)) ∙ rw (← is, ← rest, spelled) refl) ∙ sym (append_assoc (source_front_text head) (posts_text posts) after)
 
-pub more_bytes : (bytes after : List ℕ) (head : SourceHead) (posts : List ℤ) (place : ℕ) → bytes ≡ (front_text head ++ posts_text posts) ++ after → SourceFacts head posts → 0 < length after → place ≡ 52 + 2 * post_count head → FirstBad bytes place
+pub more_bytes : (bytes after : List ℕ) (head : SourceHead) (posts : List ℤ) (place : ℕ) → bytes ≡ (source_front_text head ++ posts_text posts) ++ after → SourceFacts head posts → 0 < length after → place ≡ 52 + 2 * post_count head → FirstBadPart bytes place
 unfolding source_of
 more_bytes bytes [] head posts place parts facts some at = absurd (omega arith)
 more_bytes bytes (byte ∷ rest) head posts place parts facts some at = bytes_left (record {
@@ -323,8 +323,8 @@ more_bytes bytes (byte ∷ rest) head posts place parts facts some at = bytes_le
   place_is = at ∙ sym (length-source_text (source_of head posts facts));
 })
 
-pub told_post : (bytes text : List ℕ) (head : SourceHead) → bytes ≡ front_text head ++ drop 52 bytes → 2 * post_count head ≤ length (drop 52 bytes) → text ≡ take (2 * post_count head) (drop 52 bytes)
-    → (e : DecodeError) → TellsPost head.kind text (post_count head) e → Tells bytes e
+pub told_post : (bytes text : List ℕ) (head : SourceHead) → bytes ≡ source_front_text head ++ drop 52 bytes → 2 * post_count head ≤ length (drop 52 bytes) → text ≡ take (2 * post_count head) (drop 52 bytes)
+    → (e : DecodeError) → TellsPost head.kind text (post_count head) e → SourceCause bytes e
 told_post bytes text head begins whole is Memory told = tt
 told_post bytes text head begins whole is (Bad place) told = wrong_post bytes text head told.0 place begins whole is told.1.0 told.1.1 told.1.2
 

@@ -16,7 +16,7 @@ use Rattle.cdb_source.specs.Head.{IsHead}
 use Rattle.cdb_source.specs.declared.kind.Kind.{Kind}
 use Rattle.cdb_source.specs.declared.kind.Kind.TheVariants.{Elevation, Material}
 use Rattle.cdb_source.specs.declared.head.SourceHead.{SourceHead}
-use Rattle.cdb_source.specs.Texts.{first_bytes, kind_number, kind_and_level, count_bytes, arc_bytes, head_text, front_text}
+use Rattle.cdb_source.specs.Texts.{source_first_bytes, kind_number, kind_and_level, count_bytes, arc_bytes, head_text, source_front_text}
 use Rattle.cdb_source.specs.Made.{HasFields}
 use Rattle.cdb_source.specs.HeadFields.{count_from, units_from, HasHead}
 
@@ -95,7 +95,7 @@ units_again a =
     let fits = units_fit a.units a.least a.most in
     ap (cast_signed w64) (from_be_bytes-to_be_bytes_8 (cast_unsigned w64 a.units) fits.1) ∙ to_z-of_z w64 a.units fits.0
 
-written_has : (head : SourceHead) → HasHead (front_text head) head
+written_has : (head : SourceHead) → HasHead (source_front_text head) head
 unfolding head_text
 written_has head = record {
   first = refl;
@@ -111,7 +111,7 @@ written_has head = record {
   dlon = units_again head.dlon;
 }
 
-pub has_head : (bytes : List ℕ) (head : SourceHead) → bytes ≡ front_text head → HasHead bytes head
+pub has_head : (bytes : List ℕ) (head : SourceHead) → bytes ≡ source_front_text head → HasHead bytes head
 has_head bytes head e = subst (λ (bs : List ℕ). HasHead bs head) (sym e) (written_has head)
 
 -- ---- a head that was read
@@ -157,7 +157,7 @@ four_bytes bytes a b len e8 e9 e10 e11 =
     let d11 : drop 11 bytes ≡ get_or bytes 11 0 ∷ drop 12 bytes = drop_more bytes 11 0 (omega arith) in
     cc
 
-pub front_is : (bytes : List ℕ) (head : SourceHead) → length bytes ≡ 52 → IsBytes bytes → HasHead bytes head → bytes ≡ front_text head
+pub front_is : (bytes : List ℕ) (head : SourceHead) → length bytes ≡ 52 → IsBytes bytes → HasHead bytes head → bytes ≡ source_front_text head
 unfolding head_text
 front_is bytes head len fits h =
     let level : get_or bytes 9 0 ≡ cast_unsigned w8 head.level.number = sym (of_z-to_z w8 (get_or bytes 9 0) (fits 9)) ∙ ap (cast_unsigned w8) h.level in
@@ -175,7 +175,7 @@ front_is bytes head len fits h =
     let f20 : drop 20 bytes ≡ arc_bytes head.lat.units ++ arc_bytes head.lon.units ++ arc_bytes head.dlat.units ++ arc_bytes head.dlon.units = rw f28 at e20 in
     let f16 : drop 16 bytes ≡ count_bytes head.cols ++ arc_bytes head.lat.units ++ arc_bytes head.lon.units ++ arc_bytes head.dlat.units ++ arc_bytes head.dlon.units = rw f20 at e16 in
     let f12 : drop 12 bytes ≡ count_bytes head.rows ++ count_bytes head.cols ++ arc_bytes head.lat.units ++ arc_bytes head.lon.units ++ arc_bytes head.dlat.units ++ arc_bytes head.dlon.units = rw f16 at e12 in
-    h.first ∙ ap (λ (rest : List ℕ). first_bytes ++ rest) (e8 ∙ ap (λ (rest : List ℕ). kind_and_level head.kind head.level.number ++ rest) f12)
+    h.first ∙ ap (λ (rest : List ℕ). source_first_bytes ++ rest) (e8 ∙ ap (λ (rest : List ℕ). kind_and_level head.kind head.level.number ++ rest) f12)
 
 -- ---- bytes that aren't those of a head
 
@@ -193,16 +193,16 @@ other_head bytes head h k y x dy dx r c ek ey ex edy edx er ec not_head =
     not_head (rw (← fk, ← fy, ← fx, ← fdy, ← fdx, ← fr, ← fc) head.in_range)
 
 -- the answer on the fields, as one on the bytes
-pub head_spelled : (bytes : List ℕ) (r : Option SourceHead) → length bytes ≡ 52 → IsBytes bytes → MatchOption r ((head : SourceHead) → HasHead bytes head → ⊥) (λ head. HasHead bytes head) → IfSome r (λ head. bytes ≡ front_text head)
+pub head_spelled : (bytes : List ℕ) (r : Option SourceHead) → length bytes ≡ 52 → IsBytes bytes → MatchOption r ((head : SourceHead) → HasHead bytes head → ⊥) (λ head. HasHead bytes head) → IfSome r (λ head. bytes ≡ source_front_text head)
 head_spelled bytes (Some head) len fits h = front_is bytes head len fits h
 head_spelled bytes None len fits h = tt
 
-pub head_only : (bytes : List ℕ) (r : Option SourceHead) → MatchOption r ((head : SourceHead) → HasHead bytes head → ⊥) (λ head. HasHead bytes head) → (head : SourceHead) → bytes ≡ front_text head → r ≡ Some head
+pub head_only : (bytes : List ℕ) (r : Option SourceHead) → MatchOption r ((head : SourceHead) → HasHead bytes head → ⊥) (λ head. HasHead bytes head) → (head : SourceHead) → bytes ≡ source_front_text head → r ≡ Some head
 head_only bytes (Some given) h head e = ap Some (one_head bytes given head h (has_head bytes head e))
 head_only bytes None h head e = absurd (h head (has_head bytes head e))
 
 -- the fields that were read are a head, or aren't
-pub head_answer : (bytes : List ℕ) (r : Option SourceHead) (k : Kind) (l : Level) (y x dy dx : Arc) (rows cols : ℕ) → bytes ≡ first_bytes ++ drop 8 bytes → get_or bytes 8 0 ≡ kind_number k
+pub head_answer : (bytes : List ℕ) (r : Option SourceHead) (k : Kind) (l : Level) (y x dy dx : Arc) (rows cols : ℕ) → bytes ≡ source_first_bytes ++ drop 8 bytes → get_or bytes 8 0 ≡ kind_number k
     → cast_signed w8 (get_or bytes 9 0) ≡ l.number → get_or bytes 10 0 ≡ 0 → get_or bytes 11 0 ≡ 0 → rows ≡ count_from bytes 12 → cols ≡ count_from bytes 16
     → units_from bytes 20 ≡ y.units → units_from bytes 28 ≡ x.units → units_from bytes 36 ≡ dy.units → units_from bytes 44 ≡ dx.units
     → MatchOption r (IsHead k y.units x.units dy.units dx.units rows cols → ⊥) (λ head. HasFields head k l y x dy dx rows cols)

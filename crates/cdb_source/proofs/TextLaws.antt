@@ -6,7 +6,7 @@ use Rattle.std.proofs.lemmas.Grind.{flat_map-append}
 use Rattle.cdb_source.specs.declared.kind.Kind.TheVariants.{Elevation}
 use Rattle.cdb_source.specs.declared.head.SourceHead.{SourceHead}
 use Rattle.cdb_source.specs.declared.source.Source.{Source}
-use Rattle.cdb_source.specs.Texts.{head_text, front_text, post_bytes, posts_text, source_text}
+use Rattle.cdb_source.specs.Texts.{head_text, source_front_text, post_bytes, posts_text, source_text}
 
 -- a known part that stands right after a front makes a longer front
 pub then_part : (at n : ℕ) (new old part front known : List ℕ) → part ≡ known → at + length known ≡ n → take (at + length part) new ≡ take at old ++ part → take at old ≡ front → take n new ≡ front ++ known
@@ -38,7 +38,7 @@ posts_text-take (suc n) (p ∷ ps) =
     let e : 2 * suc n ≡ suc (suc (2 * n)) = omega arith in
     rw e (ap (λ rest. post_bytes p ++ rest) (posts_text-take n ps))
 
-pub length-front_text : (head : SourceHead) → length (front_text head) ≡ 52
+pub length-front_text : (head : SourceHead) → length (source_front_text head) ≡ 52
 unfolding head_text
 length-front_text head = refl
 
@@ -51,7 +51,7 @@ drop-front n (x ∷ front) rest =
 -- a row of the posts, as a part of the file
 pub row_in_file : (source : Source) (from cols : ℕ) → take (2 * cols) (drop (52 + 2 * from) (source_text source)) ≡ posts_text (take cols (drop from source.posts))
 row_in_file source from cols =
-    let past : drop (52 + 2 * from) (source_text source) ≡ drop (2 * from) (posts_text source.posts) = rw (← length-front_text source.head) (drop-front (2 * from) (front_text source.head) (posts_text source.posts)) in
+    let past : drop (52 + 2 * from) (source_text source) ≡ drop (2 * from) (posts_text source.posts) = rw (← length-front_text source.head) (drop-front (2 * from) (source_front_text source.head) (posts_text source.posts)) in
     rw (past, posts_text-drop from source.posts) (posts_text-take cols (drop from source.posts))
 
 -- the file of one post of 500 metres at N46E007, at level -10 with steps of one degree, byte by byte

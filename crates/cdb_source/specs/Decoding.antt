@@ -7,27 +7,27 @@ use Rattle.cdb_source.specs.declared.source.Source.{Source}
 use Rattle.cdb_source.specs.declared.decode_error.DecodeError.{DecodeError}
 use Rattle.cdb_source.specs.declared.decode_error.DecodeError.TheVariants.{Memory, Bad}
 use Rattle.cdb_source.specs.Posts.{IsPost}
-use Rattle.cdb_source.specs.Texts.{first_bytes, front_text, post_bytes, posts_text, source_text}
+use Rattle.cdb_source.specs.Texts.{source_first_bytes, source_front_text, post_bytes, posts_text, source_text}
 
 -- how many posts a source of a head has
 abbrev pub post_count : SourceHead → ℕ
 post_count head = head.rows * head.cols
 
 -- the first bytes are wrong, or not whole
-pub record IsOther (bytes : List ℕ) : Type 0 where
-  pub never : (rest : List ℕ) → bytes ≡ first_bytes ++ rest → ⊥
+pub record HasOtherFirstBytes (bytes : List ℕ) : Type 0 where
+  pub never : (rest : List ℕ) → bytes ≡ source_first_bytes ++ rest → ⊥
 
 -- the first bytes are right, and no head follows
 pub record HasNoHead (bytes : List ℕ) : Type 0 where
   pub rest : List ℕ
-  pub begins : bytes ≡ first_bytes ++ rest
-  pub never : (head : SourceHead) (after : List ℕ) → bytes ≡ front_text head ++ after → ⊥
+  pub begins : bytes ≡ source_first_bytes ++ rest
+  pub never : (head : SourceHead) (after : List ℕ) → bytes ≡ source_front_text head ++ after → ⊥
 
 -- after a head the posts aren't whole
 pub record HasCutPosts (bytes : List ℕ) : Type 0 where
   pub head : SourceHead
   pub rest : List ℕ
-  pub begins : bytes ≡ front_text head ++ rest
+  pub begins : bytes ≡ source_front_text head ++ rest
   pub cut : length rest < 2 * post_count head
 
 -- a number of 16 bits, which the kind doesn't allow, stands after so many posts, which it allows
@@ -51,7 +51,7 @@ pub record HasBadPost (bytes : List ℕ) (place : ℕ) : Type 0 where
   pub head : SourceHead
   pub rest : List ℕ
   pub count : ℕ
-  pub begins : bytes ≡ front_text head ++ rest
+  pub begins : bytes ≡ source_front_text head ++ rest
   pub whole : 2 * post_count head ≤ length rest
   pub within : count < post_count head
   pub bad : IsBadPost head.kind rest count
@@ -66,17 +66,17 @@ pub record HasBytesLeft (bytes : List ℕ) (place : ℕ) : Type 0 where
   pub place_is : place ≡ length (source_text source)
 
 -- the first part of the bytes that isn't of the form of a source file begins at a place
-pub data FirstBad (bytes : List ℕ) (place : ℕ) : Type 0 where
-  first_bytes_bad : IsOther bytes → place ≡ 0 → FirstBad bytes place
-  head_bad : HasNoHead bytes → place ≡ 8 → FirstBad bytes place
-  posts_cut : HasCutPosts bytes → place ≡ 52 → FirstBad bytes place
-  post_bad : HasBadPost bytes place → FirstBad bytes place
-  bytes_left : HasBytesLeft bytes place → FirstBad bytes place
+pub data FirstBadPart (bytes : List ℕ) (place : ℕ) : Type 0 where
+  first_bytes_bad : HasOtherFirstBytes bytes → place ≡ 0 → FirstBadPart bytes place
+  head_bad : HasNoHead bytes → place ≡ 8 → FirstBadPart bytes place
+  posts_cut : HasCutPosts bytes → place ≡ 52 → FirstBadPart bytes place
+  post_bad : HasBadPost bytes place → FirstBadPart bytes place
+  bytes_left : HasBytesLeft bytes place → FirstBadPart bytes place
 
 -- what an error says of the bytes
-abbrev pub Tells : List ℕ → DecodeError → Type 0
-Tells bytes Memory = Unit {0}
-Tells bytes (Bad place) = FirstBad bytes place
+abbrev pub SourceCause : List ℕ → DecodeError → Type 0
+SourceCause bytes Memory = Unit {0}
+SourceCause bytes (Bad place) = FirstBadPart bytes place
 
 -- what an error says of a text of so many posts
 abbrev pub TellsPost : Kind → List ℕ → ℕ → DecodeError → Type 0
@@ -90,9 +90,9 @@ GivesSource source (Err Memory) = Unit {0}
 GivesSource source (Err (Bad place)) = ⊥
 
 -- the first bad part of the bytes begins at one place alone
-abbrev pub OneBadPlace : Type 0
-OneBadPlace = (bytes : List ℕ) (p q : ℕ) → FirstBad bytes p → FirstBad bytes q → p ≡ q
+abbrev pub OneBadPart : Type 0
+OneBadPart = (bytes : List ℕ) (p q : ℕ) → FirstBadPart bytes p → FirstBadPart bytes q → p ≡ q
 
 -- the file of a source has no bad part
 abbrev pub SourceHasNone : Type 0
-SourceHasNone = (source : Source) (place : ℕ) → FirstBad (source_text source) place → ⊥
+SourceHasNone = (source : Source) (place : ℕ) → FirstBadPart (source_text source) place → ⊥

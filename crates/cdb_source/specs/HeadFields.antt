@@ -2,7 +2,7 @@
 use Rattle.std.specs.Prelude.{◌≡◌, ℕ, ℤ, List, ◌++◌, get_or, take, drop}
 use Rattle.std.specs.Int.{w8, w32, w64, from_be_bytes, cast_signed}
 use Rattle.cdb_source.specs.declared.head.SourceHead.{SourceHead}
-use Rattle.cdb_source.specs.Texts.{first_bytes, kind_number}
+use Rattle.cdb_source.specs.Texts.{source_first_bytes, kind_number}
 
 -- the number in the four bytes from a place on, and the signed one in eight bytes
 abbrev pub count_from : List ℕ → ℕ → ℕ
@@ -13,7 +13,7 @@ units_from bytes at = cast_signed w64 (from_be_bytes w64 (take 8 (drop at bytes)
 
 -- each field of the head stands at its place
 pub record HasHead (bytes : List ℕ) (head : SourceHead) : Type 0 where
-  pub first : bytes ≡ first_bytes ++ drop 8 bytes
+  pub first : bytes ≡ source_first_bytes ++ drop 8 bytes
   pub kind : get_or bytes 8 0 ≡ kind_number head.kind
   pub level : cast_signed w8 (get_or bytes 9 0) ≡ head.level.number
   pub zero_10 : get_or bytes 10 0 ≡ 0

@@ -12,7 +12,7 @@ making maker = record {
   posts = drop (maker.due * maker.head.cols) maker.posts.items;
 }
 
-pub record IsSound (maker : Inside) : Type 0 where
+pub record IsSoundMaker (maker : Inside) : Type 0 where
   pub due : maker.due ≤ maker.head.rows
   pub count : length maker.posts.items ≡ maker.head.rows * maker.head.cols
   pub in_range : All (IsPost maker.head.kind) maker.posts.items

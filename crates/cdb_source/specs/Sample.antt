@@ -10,7 +10,7 @@ use Rattle.cdb_source.specs.declared.kind.Kind.{Kind}
 use Rattle.cdb_source.specs.declared.kind.Kind.TheVariants.{Elevation, Material}
 use Rattle.cdb_source.specs.declared.head.SourceHead.{SourceHead}
 use Rattle.cdb_source.specs.declared.source.Source.{Source}
-use Rattle.cdb_source.specs.Head.{size_of, span}
+use Rattle.cdb_source.specs.Head.{magnitude, span}
 use Rattle.cdb_source.specs.Posts.{none_of}
 
 -- the south-west corner of a source as a place, and its steps as plain numbers
@@ -18,10 +18,10 @@ abbrev pub corner_of : SourceHead → Place
 corner_of head = point_of head.lat head.lon
 
 abbrev pub row_step : SourceHead → ℕ
-row_step head = size_of head.dlat.units
+row_step head = magnitude head.dlat.units
 
 abbrev pub column_step : SourceHead → ℕ
-column_step head = size_of head.dlon.units
+column_step head = magnitude head.dlon.units
 
 -- how far the box reaches north and east of its corner
 abbrev pub box_height : SourceHead → ℕ

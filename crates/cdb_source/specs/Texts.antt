@@ -9,8 +9,8 @@ use Rattle.cdb_source.specs.declared.head.SourceHead.{SourceHead}
 use Rattle.cdb_source.specs.declared.source.Source.{Source}
 
 -- a source file begins with these eight bytes: CDBSRC1 and a line feed
-abbrev pub first_bytes : List ℕ
-first_bytes = codes "CDBSRC1" ++ 10 ∷ []
+abbrev pub source_first_bytes : List ℕ
+source_first_bytes = codes "CDBSRC1" ++ 10 ∷ []
 
 -- the number of a kind
 abbrev pub kind_number : Kind → ℕ
@@ -46,9 +46,9 @@ abbrev pub row_of_posts : Source → ℕ → List ℤ
 row_of_posts source r = take source.head.cols (drop (r * source.head.cols) source.posts)
 
 -- the 52 bytes before the posts
-abbrev pub front_text : SourceHead → List ℕ
-front_text head = first_bytes ++ head_text head
+abbrev pub source_front_text : SourceHead → List ℕ
+source_front_text head = source_first_bytes ++ head_text head
 
 -- the bytes of a source file: the posts stand south row first, each row from west to east
 abbrev pub source_text : Source → List ℕ
-source_text source = front_text source.head ++ posts_text source.posts
+source_text source = source_front_text source.head ++ posts_text source.posts

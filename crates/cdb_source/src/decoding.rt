@@ -5,9 +5,9 @@ ghost use Rattle.cdb_source.specs.declared.head.SourceHead as heads;
 ghost use Rattle.cdb_source.specs.declared.kind.Kind as kinds;
 ghost use Rattle.cdb_source.specs.declared.source.Source as sources;
 ghost use Rattle.cdb_source.specs.Posts.{IsPost};
-ghost use Rattle.cdb_source.specs.Texts.{first_bytes, kind_number, front_text, post_bytes, posts_text, source_text};
+ghost use Rattle.cdb_source.specs.Texts.{source_first_bytes, kind_number, source_front_text, post_bytes, posts_text, source_text};
 ghost use Rattle.cdb_source.specs.HeadFields.{count_from, units_from, HasHead};
-ghost use Rattle.cdb_source.specs.Decoding.{IsBadPost, ReadsPosts, TellsPost, Tells, GivesSource};
+ghost use Rattle.cdb_source.specs.Decoding.{IsBadPost, ReadsPosts, TellsPost, SourceCause, GivesSource};
 
 use crate::decode_error::DecodeError;
 use crate::encoding::FIRST_BYTES;
@@ -20,8 +20,8 @@ use cdb_grid::{Arc, DEGREE, Level};
 use std::alloc::Global;
 
 fn begins_right(bytes: &[u8]) -> bool
-    ensures begins { IsTrue result → bytes.now ≡ first_bytes ++ drop 8 bytes.now }
-    ensures only { (rest : List ℕ) → bytes.now ≡ first_bytes ++ rest → IsTrue result }
+    ensures begins { IsTrue result → bytes.now ≡ source_first_bytes ++ drop 8 bytes.now }
+    ensures only { (rest : List ℕ) → bytes.now ≡ source_first_bytes ++ rest → IsTrue result }
 {
     bytes.starts_with(&FIRST_BYTES)
 }
@@ -107,16 +107,16 @@ fn head_of(bytes: &[u8; 52]) -> Option<SourceHead>
 
 /// The head that the first 52 bytes of a source file spell, or `None` exactly where they spell none.
 pub fn decode_head(bytes: &[u8; 52]) -> Option<SourceHead>
-    ensures spelled { IfSome result (λ head. bytes.now ≡ front_text head) }
-    ensures only { (head : heads.SourceHead) → bytes.now ≡ front_text head → result ≡ Some head }
+    ensures spelled { IfSome result (λ head. bytes.now ≡ source_front_text head) }
+    ensures only { (head : heads.SourceHead) → bytes.now ≡ source_front_text head → result ≡ Some head }
 {
     head_of(bytes)
 }
 
 /// The head before the posts.
 fn front(bytes: &[u8]) -> Result<SourceHead, DecodeError>
-    ensures head { IfOk result (λ head. bytes.now ≡ front_text head ++ drop 52 bytes.now) }
-    ensures bad { IfErr result (Tells bytes.now) }
+    ensures head { IfOk result (λ head. bytes.now ≡ source_front_text head ++ drop 52 bytes.now) }
+    ensures bad { IfErr result (SourceCause bytes.now) }
 {
     if !begins_right(bytes) {
         return Err(DecodeError::Bad { place: 0 });
@@ -172,7 +172,7 @@ fn posts_of(alloc: Global, kind: Kind, text: &[u8], count: usize) -> Result<Vec<
 /// The three parts in their order: the first bytes and the head, the posts, and nothing more.
 fn source_of(alloc: Global, bytes: &[u8]) -> Result<Source, DecodeError>
     ensures spelled { IfOk result (λ source. bytes.now ≡ source_text source) }
-    ensures bad { IfErr result (Tells bytes.now) }
+    ensures bad { IfErr result (SourceCause bytes.now) }
 {
     let head = front(bytes)?;
     let count = head.rows as usize * head.cols as usize;
@@ -198,7 +198,7 @@ fn source_of(alloc: Global, bytes: &[u8]) -> Result<Source, DecodeError>
 pub fn decode(alloc: Global, bytes: &[u8]) -> Result<Source, DecodeError>
     ensures spelled { IfOk result (λ source. bytes.now ≡ source_text source) }
     ensures only { (source : sources.Source) → bytes.now ≡ source_text source → GivesSource source result }
-    ensures bad { IfErr result (Tells bytes.now) }
+    ensures bad { IfErr result (SourceCause bytes.now) }
 {
     source_of(alloc, bytes)
 }

@@ -30,7 +30,7 @@ fn put(to: &mut [u8], at: usize, part: &[u8])
 /// bytes of the head. All numbers are big endian, and signed ones two's complement.
 #[tactic(auto, unfolding(crate::specs::Texts::head_text))]
 pub fn encode_head(head: &SourceHead) -> [u8; 52]
-    ensures { result ≡ texts.front_text head.now }
+    ensures { result ≡ texts.source_front_text head.now }
 {
     let mut bytes = [0; 52];
     put(&mut bytes, 0, &FIRST_BYTES);

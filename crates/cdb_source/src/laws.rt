@@ -5,8 +5,8 @@
 ghost use Rattle.std.specs.Prelude.{◌≡◌, ◌+◌, ◌*◌, ◌≤◌, length};
 ghost use Rattle.cdb_source.specs.declared.head.SourceHead as heads;
 ghost use Rattle.cdb_source.specs.declared.source.Source as sources;
-ghost use Rattle.cdb_source.specs.Texts.{front_text, source_text};
-ghost use Rattle.cdb_source.specs.Decoding.{OneBadPlace, SourceHasNone};
+ghost use Rattle.cdb_source.specs.Texts.{source_front_text, source_text};
+ghost use Rattle.cdb_source.specs.Decoding.{OneBadPart, SourceHasNone};
 ghost use Rattle.cdb_source.specs.Laws.{BestSource, FinerPlaces, FromFiner, EarlierStand, ThreePasses, LeastOfCell, GreatestOfCell, MostFrequent, MaterialLater, ReachingAlone, Samples, TouchedWithinLoad};
 
 /// The elevation at a place is the sample of the source that is greatest by level, then by number,
@@ -79,7 +79,7 @@ pub fn touched_within_load()
 /// The place that `decode` tells of bytes that aren't a source's is the only one: no bytes have two
 /// places at which their first bad part begins.
 pub fn one_bad_place()
-    ensures { OneBadPlace }
+    ensures { OneBadPart }
 {}
 
 /// The file of a source has no bad part, at whatever place.
@@ -89,7 +89,7 @@ pub fn source_has_none()
 
 /// The file of a source has 52 bytes, and two for each post: at most 33,554,484.
 pub fn source_file_length()
-    ensures front { (head : heads.SourceHead) → length (front_text head) ≡ 52 }
+    ensures front { (head : heads.SourceHead) → length (source_front_text head) ≡ 52 }
     ensures whole { (s : sources.Source) → length (source_text s) ≡ 52 + 2 * (s.head.rows * s.head.cols) }
     ensures most { (s : sources.Source) → length (source_text s) ≤ 33554484 }
 {}

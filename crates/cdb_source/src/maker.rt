@@ -24,11 +24,11 @@ impl Model for SourceMaker {
 
     ghost Value = { Making };
 
-    ghost use Rattle.cdb_source.specs.Maker.{making, IsSound};
+    ghost use Rattle.cdb_source.specs.Maker.{making, IsSoundMaker};
 
     ghost view = { making };
 
-    ghost invariant = { IsSound };
+    ghost invariant = { IsSoundMaker };
 }
 
 impl SourceMaker {

@@ -1,7 +1,7 @@
 //! What the head of a source may have: steps, rows and columns, and a box on the globe.
 ghost use Rattle.std.specs.Prelude.{◌≡◌, ◌+◌, ◌*◌, ◌≤◌, ◌↔◌, IsTrue, pos, negsuc, ◌≤ℤ◌, ◌+ℤ◌};
 ghost use Rattle.cdb_grid.specs.Units.{degree, from_pole, from_west};
-ghost use Rattle.cdb_source.specs.Head.{size_of, span, IsStep, IsRaster, IsLatitude, IsLongitude};
+ghost use Rattle.cdb_source.specs.Head.{magnitude, span, IsStep, IsRaster, IsLatitude, IsLongitude};
 
 use crate::kind::Kind;
 use cdb_grid::{Arc, DEGREE};
@@ -22,7 +22,7 @@ const MOST_POSTS: u64 = 16_777_216;
 
 /// The arc units of a step, 0 for a negative one.
 pub(crate) fn step_size(step: Arc) -> u64
-    ensures { result ≡ size_of step.units }
+    ensures { result ≡ magnitude step.units }
 {
     if step.units < 0 { 0 } else { step.units as u64 }
 }

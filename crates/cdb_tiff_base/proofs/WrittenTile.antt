@@ -9,11 +9,11 @@ use Rattle.byteorder.specs.Endian.{little_number}
 use Rattle.byteorder.specs.Numbers.{little_number-reads_back}
 use Rattle.cdb_tiff_base.specs.Numbers.{Bytes}
 use Rattle.cdb_tiff_base.specs.First.{first_from}
-use Rattle.cdb_tiff_base.specs.Directory.{directory, entry_count, count_of}
+use Rattle.cdb_tiff_base.specs.Directory.{directory, entry_count, count_of_entry}
 use Rattle.cdb_tiff_base.specs.Strips.{image_width, image_length, bits_per_sample, rows_per_strip, strips, strip_rows, need, strip_offset, strip_byte_count}
-use Rattle.cdb_tiff_base.specs.Causes.{cause_of, is_tiff, is_big_tiff, not_tiff, bad_directory, bad_size, lacks_bytes, bad_strips, short}
+use Rattle.cdb_tiff_base.specs.Causes.{cause_of, is_tiff, is_big_tiff, not_tiff, bad_directory, bad_size, lacks_bytes, bad_strips, is_cut_short}
 use Rattle.cdb_tiff_base.specs.Pixels.{pixel, row_place, sample}
-use Rattle.cdb_tiff_base.specs.WrittenTile.{head_bytes, raster_bytes, tile_bytes, IsRaster}
+use Rattle.cdb_tiff_base.specs.WrittenTile.{written_head, written_raster, written_tile, IsShortRaster}
 use Rattle.cdb_tiff_base.proofs.WrittenHead.{head_length, order_is, directory_is, count_is, width_is, length_is, bits_are, format_is, rows_per_strip_are, offsets_are, byte_counts_are, offset_is, byte_count_is, tiff, not_big, in_order, kinds_good, not_tiled, none_absent, not_compressed, one_sample, not_floating, bits_good}
 
 -- rows that look at the length, over any bytes
@@ -49,44 +49,44 @@ whole_need : (b : Bytes) (side : ℕ) → image_width b ≡ side → image_lengt
 unfolding need strip_rows
 whole_need b side w l rows bits = let all : min side (side - 0 * side) ≡ side = omega arith in rw (w, l, rows, bits, all) refl
 
-strips_good : (b : Bytes) (side : ℕ) → 0 < side → rows_per_strip b ≡ side → count_of b 273 ≡ 1 → count_of b 279 ≡ 1 → strips b ≡ 1 → strip_byte_count b 0 ≡ need b 0 → bad_strips b ≡ None
+strips_good : (b : Bytes) (side : ℕ) → 0 < side → rows_per_strip b ≡ side → count_of_entry b 273 ≡ 1 → count_of_entry b 279 ≡ 1 → strips b ≡ 1 → strip_byte_count b 0 ≡ need b 0 → bad_strips b ≡ None
 unfolding bad_strips lacks_bytes first_from
 strips_good b side some rows offsets counts one bytes =
     let t1 : (side == 0) ≡ false = grind (arith, nat_tests) in
     let t2 : nat_lt (need b 0) (need b 0) ≡ false = grind (arith, nat_tests) in
     rw (rows, t1, offsets, counts, one, bytes, t2) refl
 
-ends_good : (b : Bytes) → strips b ≡ 1 → strip_offset b 0 + need b 0 ≤ length b → short b ≡ None
-unfolding short first_from
+ends_good : (b : Bytes) → strips b ≡ 1 → strip_offset b 0 + need b 0 ≤ length b → is_cut_short b ≡ None
+unfolding is_cut_short first_from
 ends_good b one within = let t : nat_lt (length b) (strip_offset b 0 + need b 0) ≡ false = grind (arith, nat_tests) in rw (one, t) refl
 
 -- the bytes of a raster
-raster_length : (values : List ℤ) → length (raster_bytes values) ≡ length values * 2
+raster_length : (values : List ℤ) → length (written_raster values) ≡ length values * 2
 raster_length [] = refl
 raster_length (v ∷ values) = let more = raster_length values in omega (arith, more)
 
-raster_value : (values : List ℤ) (i : ℕ) (d : ℤ) → All (FitsSigned w16) values → i < length values → cast_signed w16 (little_number 2 (drop (i * 2) (raster_bytes values))) ≡ slice_index_or values i d
+raster_value : (values : List ℤ) (i : ℕ) (d : ℤ) → All (FitsSigned w16) values → i < length values → cast_signed w16 (little_number 2 (drop (i * 2) (written_raster values))) ≡ slice_index_or values i d
 raster_value [] i d fit below = absurd (omega arith)
 raster_value (v ∷ values) zero d fit below =
     let fits : FitsSigned w16 v = fit 0 d below in
     let lt : cast_unsigned w16 v < 256 ^ 2 = omega (arith, Fits-of_z {w = w16} {z = v} fits) in
-    rw (little_number-reads_back 2 (cast_unsigned w16 v) (raster_bytes values) lt) (to_z-of_z {w = w16} {z = v} fits)
+    rw (little_number-reads_back 2 (cast_unsigned w16 v) (written_raster values) lt) (to_z-of_z {w = w16} {z = v} fits)
 raster_value (v ∷ values) (suc i) d fit below =
     let two : suc i * 2 ≡ suc (suc (i * 2)) = omega arith in
     let lt : i < length values = omega arith in
     let rest : All (FitsSigned w16) values = λ k e h. fit (suc k) e (omega arith) in
     rw two (raster_value values i d rest lt)
 
-tile_length : (side : ℕ) (values : List ℤ) → IsRaster side values → length (tile_bytes side values) ≡ 186 + side * side * 2
+tile_length : (side : ℕ) (values : List ℤ) → IsShortRaster side values → length (written_tile side values) ≡ 186 + side * side * 2
 tile_length side values is =
     let count = is.count in
-    omega (arith, length-append (head_bytes side 16) (raster_bytes values), head_length side, raster_length values, ap (λ (n : ℕ). n * 2) count)
+    omega (arith, length-append (written_head side 16) (written_raster values), head_length side, raster_length values, ap (λ (n : ℕ). n * 2) count)
 
-pub accepted : (side : ℕ) (values : List ℤ) → IsRaster side values → cause_of (tile_bytes side values) ≡ None
+pub accepted : (side : ℕ) (values : List ℤ) → IsShortRaster side values → cause_of (written_tile side values) ≡ None
 unfolding cause_of
 accepted side values is =
-    let rest : Bytes = raster_bytes values in
-    let b : Bytes = tile_bytes side values in
+    let rest : Bytes = written_raster values in
+    let b : Bytes = written_tile side values in
     let some = is.some in
     let most = is.most in
     let all = square side most in
@@ -106,17 +106,17 @@ accepted side values is =
     let r14 = ends_good b one (omega (arith, long, needs, offset_is side rest)) in
     rw (r1, not_big side rest, r3, in_order side rest, kinds_good side rest, not_tiled side rest, none_absent side rest, not_compressed side rest, one_sample side rest, not_floating side rest, bits_good side rest, r12, r13, r14) refl
 
-pub pixel_is : (side : ℕ) (values : List ℤ) (r c : ℕ) → IsRaster side values → r < side → c < side → pixel (tile_bytes side values) r c ≡ slice_index_or values (r * side + c) (pos 0)
+pub pixel_is : (side : ℕ) (values : List ℤ) (r c : ℕ) → IsShortRaster side values → r < side → c < side → pixel (written_tile side values) r c ≡ slice_index_or values (r * side + c) (pos 0)
 unfolding pixel row_place sample
 pixel_is side values r c is row column =
-    let rest : Bytes = raster_bytes values in
+    let rest : Bytes = written_raster values in
     let most = is.most in
     let small : side < 65536 = omega arith in
     let whole : suc r * side ≤ side * side = mul-le-mul_right side row in
     let below : r * side + c < length values = omega (arith, whole, is.count) in
     let first = div-eq_of_lt row in
     let same = mod-eq_of_lt row in
-    let place : 186 + r * side * 2 + c * 2 ≡ length (head_bytes side 16) + (r * side + c) * 2 = omega (arith, head_length side) in
-    let behind = drop-append-add (head_bytes side 16) rest ((r * side + c) * 2) in
+    let place : 186 + r * side * 2 + c * 2 ≡ length (written_head side 16) + (r * side + c) * 2 = omega (arith, head_length side) in
+    let behind = drop-append-add (written_head side 16) rest ((r * side + c) * 2) in
     rw (order_is side rest, bits_are side rest, format_is side rest, rows_per_strip_are side rest small, width_is side rest small, first, same, offset_is side rest)
     (rw (place, behind) (raster_value values (r * side + c) (pos 0) is.fit below))

@@ -5,7 +5,7 @@ use Rattle.std.specs.List.{starts_with, list_any}
 use Rattle.cdb_tiff_base.specs.Numbers.{Bytes}
 use Rattle.cdb_tiff_base.specs.Entries.{is_sound}
 use Rattle.cdb_tiff_base.specs.First.{first_below}
-use Rattle.cdb_tiff_base.specs.Directory.{order_of, directory, entry_count, entries, tag_entry, count_of}
+use Rattle.cdb_tiff_base.specs.Directory.{order_of, directory, entry_count, entries, tag_entry, count_of_entry}
 use Rattle.cdb_tiff_base.specs.Strips.{image_width, image_length, bits_per_sample, compression, fill_order, samples_per_pixel, rows_per_strip, sample_format, strips, need, strip_offset, strip_byte_count}
 use Rattle.cdb_tiff_base.specs.declared.entry.Entry.{Entry}
 use Rattle.cdb_tiff_base.specs.declared.tiff_cause.TiffCause.{TiffCause}
@@ -119,17 +119,17 @@ lacks_bytes b = is_some (first_below (λ k. nat_lt (strip_byte_count b k) (need 
 -- row 13: no rows in a strip, another number of offsets or of byte counts than of strips, or a strip
 -- with too few bytes
 unfoldable pub bad_strips : Bytes → Row
-bad_strips b = at_tag b (rows_per_strip b == 0 || (not (count_of b 273 == strips b) || (not (count_of b 279 == strips b) || lacks_bytes b))) cause.Strips 273
+bad_strips b = at_tag b (rows_per_strip b == 0 || (not (count_of_entry b 273 == strips b) || (not (count_of_entry b 279 == strips b) || lacks_bytes b))) cause.Strips 273
 
 -- row 14: a strip's offset and need pass the end of the file; the place is the first such offset
-unfoldable pub short : Bytes → Row
-short b = option_map (λ k. record { cause = cause.Short; at = strip_offset b k }) (first_below (λ k. nat_lt (length b) (strip_offset b k + need b k)) (strips b))
+unfoldable pub is_cut_short : Bytes → Row
+is_cut_short b = option_map (λ k. record { cause = cause.Short; at = strip_offset b k }) (first_below (λ k. nat_lt (length b) (strip_offset b k + need b k)) (strips b))
 
 -- the table of causes, in its order
 abbrev pub table : Bytes → List Row
 table b =
     not_tiff b ∷ big_tiff b ∷ bad_directory b ∷ bad_order b ∷ bad_kind b ∷ tiled b ∷ absent b
-    ∷ compressed b ∷ several_samples b ∷ floating b ∷ bad_bits b ∷ bad_size b ∷ bad_strips b ∷ short b ∷ []
+    ∷ compressed b ∷ several_samples b ∷ floating b ∷ bad_bits b ∷ bad_size b ∷ bad_strips b ∷ is_cut_short b ∷ []
 
 -- the first row that applies
 abbrev pub first_of : List Row → Row

@@ -2,7 +2,7 @@
 use Rattle.std.specs.Prelude.{ℕ, ◌+◌, ◌*◌, ◌==◌, if◌then◌else◌, Option, option_map, option_and_then, unwrap_or, List, map, find, drop, slice_index}
 use Rattle.std.specs.List.{range_with_len}
 use Rattle.cdb_tiff_base.specs.Numbers.{Bytes, number}
-use Rattle.cdb_tiff_base.specs.Entries.{entry_at, value_of}
+use Rattle.cdb_tiff_base.specs.Entries.{entry_at, entry_value}
 use Rattle.cdb_tiff_base.specs.declared.entry.Entry.{Entry}
 use Rattle.cdb_tiff_base.specs.declared.order.Order.{Order}
 use Rattle.cdb_tiff_base.specs.declared.order.Order.TheVariants.{Little, Big}
@@ -33,8 +33,8 @@ tag_entry b tag = find (λ (e : Entry). e.tag == tag) (entries b)
 
 -- the value at an index of the entry of a tag, or what stands in its place where there is none
 unfoldable pub value_or : Bytes → ℕ → ℕ → ℕ → ℕ
-value_or b tag index otherwise = unwrap_or (option_and_then (λ e. value_of (order_of b) b e index) (tag_entry b tag)) otherwise
+value_or b tag index otherwise = unwrap_or (option_and_then (λ e. entry_value (order_of b) b e index) (tag_entry b tag)) otherwise
 
 -- the number of values of the entry of a tag
-unfoldable pub count_of : Bytes → ℕ → ℕ
-count_of b tag = unwrap_or (option_map (λ (e : Entry). e.count) (tag_entry b tag)) 0
+unfoldable pub count_of_entry : Bytes → ℕ → ℕ
+count_of_entry b tag = unwrap_or (option_map (λ (e : Entry). e.count) (tag_entry b tag)) 0

@@ -15,12 +15,12 @@ entry_at order b at = record {
 }
 
 -- the bytes of one value of a type: BYTE (1), SHORT (3) and LONG (4); no other type is read
-abbrev pub size_of : ℕ → ℕ
-size_of kind = if kind == 1 then 1 else (if kind == 3 then 2 else (if kind == 4 then 4 else 0))
+abbrev pub type_size : ℕ → ℕ
+type_size kind = if kind == 1 then 1 else (if kind == 3 then 2 else (if kind == 4 then 4 else 0))
 
 -- the bytes that an entry's values take together
 abbrev pub size_of_values : Entry → ℕ
-size_of_values e = e.count * size_of e.kind
+size_of_values e = e.count * type_size e.kind
 
 -- the bytes in which an entry's values stand one after the other: the field where they take at most
 -- four bytes, else the file from the place on that the field holds
@@ -28,12 +28,12 @@ abbrev pub values : Order → Bytes → Entry → Bytes
 values order b e = if nat_le (size_of_values e) 4 then e.field else drop (number order 4 e.field) b
 
 -- the value at an index: its type is read, the entry has more values than the index, and it is whole
-unfoldable pub value_of : Order → Bytes → Entry → ℕ → Option ℕ
-value_of order b e i =
-    if (nat_lt 0 (size_of e.kind) && nat_lt i e.count) && nat_le (i * size_of e.kind + size_of e.kind) (length (values order b e))
-    then Some (number order (size_of e.kind) (drop (i * size_of e.kind) (values order b e)))
+unfoldable pub entry_value : Order → Bytes → Entry → ℕ → Option ℕ
+entry_value order b e i =
+    if (nat_lt 0 (type_size e.kind) && nat_lt i e.count) && nat_le (i * type_size e.kind + type_size e.kind) (length (values order b e))
+    then Some (number order (type_size e.kind) (drop (i * type_size e.kind) (values order b e)))
     else None
 
 -- the entry's type is read, it has a value, and all of its values are whole in the file
 unfoldable pub is_sound : Order → Bytes → Entry → Bool
-is_sound order b e = (nat_lt 0 (size_of e.kind) && nat_lt 0 e.count) && nat_le (size_of_values e) (length (values order b e))
+is_sound order b e = (nat_lt 0 (type_size e.kind) && nat_lt 0 e.count) && nat_le (size_of_values e) (length (values order b e))

@@ -20,8 +20,8 @@ rational_entry tag place = little_bytes 2 tag ++ little_bytes 2 5 ++ little_byte
 
 -- the 186 bytes before the raster of a tile with this side and so many bits in a sample, 16 or 8:
 -- the header, 13 entries, the place of no further directory, and two resolutions of 1/1
-unfoldable pub head_bytes : ℕ → ℕ → Bytes
-head_bytes side bits =
+unfoldable pub written_head : ℕ → ℕ → Bytes
+written_head side bits =
     (73 ∷ 73 ∷ 42 ∷ 0 ∷ []) ++ little_bytes 4 8 ++ little_bytes 2 13
     ++ short_entry 256 side ++ short_entry 257 side ++ short_entry 258 bits ++ short_entry 259 1
     ++ short_entry 262 1 ++ long_entry 273 186 ++ short_entry 277 1 ++ short_entry 278 side
@@ -30,15 +30,15 @@ head_bytes side bits =
     ++ little_bytes 4 0 ++ little_bytes 4 1 ++ little_bytes 4 1 ++ little_bytes 4 1 ++ little_bytes 4 1
 
 -- the bytes of the values of a raster of 16 bits, in two's complement, one after the other
-abbrev pub raster_bytes : List ℤ → Bytes
-raster_bytes values = flat_map (λ v. little_bytes 2 (cast_unsigned w16 v)) values
+abbrev pub written_raster : List ℤ → Bytes
+written_raster values = flat_map (λ v. little_bytes 2 (cast_unsigned w16 v)) values
 
 -- the file of a tile of 16 bits with these values, north row first and each row from west to east
-abbrev pub tile_bytes : ℕ → List ℤ → Bytes
-tile_bytes side values = head_bytes side 16 ++ raster_bytes values
+abbrev pub written_tile : ℕ → List ℤ → Bytes
+written_tile side values = written_head side 16 ++ written_raster values
 
 -- the values of a raster of 16 bits with this side
-pub record IsRaster (side : ℕ) (values : List ℤ) : Type 0 where
+pub record IsShortRaster (side : ℕ) (values : List ℤ) : Type 0 where
   pub some : 0 < side
   pub most : side ≤ 1024
   pub count : length values ≡ side * side

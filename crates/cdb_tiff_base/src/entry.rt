@@ -1,6 +1,6 @@
 //! An entry of a directory, read from its place, and the values of an entry.
 ghost use Rattle.std.specs.Prelude.{◌≡◌, ◌+◌, ◌≤◌, length, SomeIff};
-ghost use Rattle.cdb_tiff_base.specs.Entries.{entry_at, size_of, value_of, values};
+ghost use Rattle.cdb_tiff_base.specs.Entries.{entry_at, type_size, entry_value, values};
 
 use crate::number::{read_u16, read_u32};
 use crate::order::Order;
@@ -45,9 +45,9 @@ pub fn read_entry(bytes: &[u8], at: u32, order: Order) -> Option<Entry>
 
 /// The value at an index, from 0, of an entry whose type is BYTE, SHORT or LONG; none where the type is
 /// another, the index isn't below the entry's count, or the value isn't whole in the file.
-#[tactic(auto, unfolding(crate::specs::Entries::value_of))]
+#[tactic(auto, unfolding(crate::specs::Entries::entry_value))]
 pub fn value(bytes: &[u8], entry: &Entry, index: u32, order: Order) -> Option<u32>
-    ensures { result ≡ value_of order bytes.now entry.now index }
+    ensures { result ≡ entry_value order bytes.now entry.now index }
 {
     let size = value_size(entry.kind);
     if index >= entry.count {
@@ -68,7 +68,7 @@ pub fn value(bytes: &[u8], entry: &Entry, index: u32, order: Order) -> Option<u3
 
 /// The bytes of one value of a type, 0 for a type that isn't read.
 fn value_size(kind: u16) -> usize
-    ensures value { result ≡ size_of kind }
+    ensures value { result ≡ type_size kind }
     ensures small { result ≤ 4 }
 {
     match kind {

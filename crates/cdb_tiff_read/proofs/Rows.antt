@@ -10,7 +10,7 @@ use Rattle.cdb_tiff_base.specs.Directory.{tag_entry}
 use Rattle.cdb_tiff_base.specs.First.{first_below}
 use Rattle.cdb_tiff_base.specs.Strips.{image_length, image_width, bits_per_sample, rows_per_strip, strips, strip_rows, strip_offset, need}
 use Rattle.cdb_tiff_base.specs.Pixels.{row_place}
-use Rattle.cdb_tiff_base.specs.Causes.{Row, first_of, table, cause_of, bad_strips, short}
+use Rattle.cdb_tiff_base.specs.Causes.{Row, first_of, table, cause_of, bad_strips, is_cut_short}
 use Rattle.cdb_tiff_base.specs.declared.entry.Entry.{Entry}
 use Rattle.cdb_tiff_read.specs.declared.image.Image.{Image}
 use Rattle.cdb_tiff_read.specs.Opened.{IsOpened}
@@ -44,7 +44,7 @@ map_none f None e = refl
 map_none f (Some v) e = absurd (cc)
 
 -- the two rows on strips don't apply to an accepted file
-pub accepted : (b : Bytes) → cause_of b ≡ None → (bad_strips b ≡ None) × (short b ≡ None)
+pub accepted : (b : Bytes) → cause_of b ≡ None → (bad_strips b ≡ None) × (is_cut_short b ≡ None)
 unfolding cause_of
 accepted b e = (rows_none (table b) 12 e, rows_none (table b) 13 e)
 
@@ -58,8 +58,8 @@ some_rows b e none there = by (rows_per_strip b == 0) refl
     by false is = grind (arith, nat_tests)
 
 -- each strip of an accepted file ends within it
-pub strip_ends : (b : Bytes) (k : ℕ) → short b ≡ None → k < strips b → strip_offset b k + need b k ≤ length b
-unfolding short
+pub strip_ends : (b : Bytes) (k : ℕ) → is_cut_short b ≡ None → k < strips b → strip_offset b k + need b k ≤ length b
+unfolding is_cut_short
 strip_ends b k none lt =
     let test : ℕ → Bool = λ k. nat_lt (length b) (strip_offset b k + need b k) in
     let found : first_below test (strips b) ≡ None = map_none _ _ none in

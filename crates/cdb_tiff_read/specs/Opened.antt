@@ -9,7 +9,7 @@ use Rattle.cdb_tiff_base.specs.declared.order.Order.{Order}
 use Rattle.cdb_tiff_read.specs.declared.image.Image.{Image}
 
 -- the image's fields are those that the tags of the file give it
-pub record HasFields (b : Bytes) (image : Image) : Type 0 where
+pub record HasTagFields (b : Bytes) (image : Image) : Type 0 where
   pub width : image.width ≡ image_width b
   pub length : image.length ≡ image_length b
   pub bits : image.bits ≡ bits_per_sample b
@@ -21,7 +21,7 @@ pub record HasFields (b : Bytes) (image : Image) : Type 0 where
 -- the file has no cause to be refused, and the image is its image
 pub record IsOpened (b : Bytes) (image : Image) : Type 0 where
   pub accepted : cause_of b ≡ None
-  pub fields : HasFields b image
+  pub fields : HasTagFields b image
 
 -- a row has the samples of one form that stand one after another from a byte place on
 pub record HasSamples (order : Order) (bits : ℕ) (signed : Bool) (b : Bytes) (place : ℕ) (old new : List ℤ)

@@ -65,7 +65,7 @@ pub fn check_order(bytes: &[u8], d: Directory) -> Result<(), TiffError>
 }
 
 /// The entry's type is read, and it has values that are whole in the file.
-#[tactic(auto, unfolding(cdb_tiff_base::specs::Entries::is_sound, cdb_tiff_base::specs::Entries::value_of))]
+#[tactic(auto, unfolding(cdb_tiff_base::specs::Entries::is_sound, cdb_tiff_base::specs::Entries::entry_value))]
 fn has_values(bytes: &[u8], entry: &Entry, order: Order) -> bool
     ensures { result ≡ is_sound order bytes.now entry.now }
 {

@@ -3,7 +3,7 @@ ghost use Rattle.std.specs.Prelude.{◌≡◌, ◌==◌, ◌*◌, ◌^◌, ◌�
 ghost use Rattle.cdb_tiff_base.specs.Causes.{absent, applies, at_tag, bad_bits, bad_size, compressed, floating, is_readable, is_size, several_samples};
 ghost use Rattle.cdb_tiff_base.specs.Directory.{directory, tag_entry};
 ghost use Rattle.cdb_tiff_base.specs.Strips.{bits_per_sample, compression, fill_order, image_length, image_width, rows_per_strip, sample_format, samples_per_pixel};
-ghost use Rattle.cdb_tiff_read.specs.Opened.{HasFields};
+ghost use Rattle.cdb_tiff_read.specs.Opened.{HasTagFields};
 ghost use Rattle.cdb_tiff_read.specs.Found.{IsDirectory, pass};
 
 use crate::directory::{Directory, find, first_value};
@@ -157,7 +157,7 @@ pub fn image_of(bytes: &[u8], d: Directory) -> Image
     requires offsets { IsSome (tag_entry bytes.now STRIP_OFFSETS) }
     requires readable { IsTrue (is_readable (bits_per_sample bytes.now) (sample_format bytes.now) (fill_order bytes.now)) }
     requires size { IsTrue (is_size (image_width bytes.now) (image_length bytes.now)) }
-    ensures { HasFields bytes.now result }
+    ensures { HasTagFields bytes.now result }
 {
     let Some(offsets) = find(bytes, d, STRIP_OFFSETS) else {
         unreachable!();

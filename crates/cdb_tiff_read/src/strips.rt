@@ -1,13 +1,13 @@
 //! The strips of an image: their places, the bytes that they need, and the checks of both.
 ghost use Rattle.std.specs.Prelude.{◌≡◌, ◌+◌, ◌-◌, ◌*◌, ◌/◌, ◌<◌, ◌≤◌, ◌^◌, ◌||◌, ◌==◌, not, min, length, nat_lt, Some, IfSome, IsSome, OnOk};
-ghost use Rattle.cdb_tiff_base.specs.Causes.{bad_strips, lacks_bytes, short};
-ghost use Rattle.cdb_tiff_base.specs.Directory.{count_of, tag_entry};
+ghost use Rattle.cdb_tiff_base.specs.Causes.{bad_strips, lacks_bytes, is_cut_short};
+ghost use Rattle.cdb_tiff_base.specs.Directory.{count_of_entry, tag_entry};
 ghost use Rattle.cdb_tiff_base.specs.First.{first_below};
 ghost use Rattle.cdb_tiff_base.specs.Numbers.{Bytes};
 ghost use Rattle.std.specs.Int.{div_ceil};
 ghost use Rattle.cdb_tiff_base.specs.Strips.{need, rows_per_strip, strip_byte_count, strip_offset, strips};
 ghost use Rattle.cdb_tiff_read.specs.Found.{IsDirectory, pass};
-ghost use Rattle.cdb_tiff_read.specs.Opened.{HasFields};
+ghost use Rattle.cdb_tiff_read.specs.Opened.{HasTagFields};
 
 use crate::directory::{Directory, find};
 use crate::fields::refuse_tag_if;
@@ -35,7 +35,7 @@ fn rows_of(image: &Image, index: u32) -> u32
 /// The bytes that the samples of a strip need.
 #[tactic(auto, unfolding(cdb_tiff_base::specs::Strips::need, cdb_tiff_base::specs::Strips::strip_rows))]
 fn need_of(image: &Image, index: u32) -> u64
-    ensures value { (b : Bytes) → HasFields b image.now → result ≡ need b index }
+    ensures value { (b : Bytes) → HasTagFields b image.now → result ≡ need b index }
     ensures small { result ≤ 2 ^ 33 }
 {
     let rows = rows_of(image, index);
@@ -45,7 +45,7 @@ fn need_of(image: &Image, index: u32) -> u64
 /// The byte place of a strip.
 #[tactic(auto, unfolding(cdb_tiff_base::specs::Strips::strip_offset, cdb_tiff_base::specs::Directory::value_or))]
 pub fn offset_of(bytes: &[u8], image: &Image, index: u32) -> u32
-    requires { HasFields bytes.now image.now }
+    requires { HasTagFields bytes.now image.now }
     ensures { result ≡ strip_offset bytes.now index }
 {
     value(bytes, &image.offsets, index, image.order).unwrap_or(0)
@@ -54,7 +54,7 @@ pub fn offset_of(bytes: &[u8], image: &Image, index: u32) -> u32
 /// The strip has fewer bytes than its samples need.
 #[tactic(auto, unfolding(cdb_tiff_base::specs::Strips::strip_byte_count, cdb_tiff_base::specs::Directory::value_or))]
 fn strip_lacks_bytes(bytes: &[u8], image: &Image, counts: &Entry, index: u32) -> bool
-    requires fields { HasFields bytes.now image.now }
+    requires fields { HasTagFields bytes.now image.now }
     requires counts { tag_entry bytes.now STRIP_BYTE_COUNTS ≡ Some counts.now }
     ensures { result ≡ nat_lt (strip_byte_count bytes.now index) (need bytes.now index) }
 {
@@ -65,7 +65,7 @@ fn strip_lacks_bytes(bytes: &[u8], image: &Image, counts: &Entry, index: u32) ->
 /// The first strip that has fewer bytes than its samples need.
 #[tactic(auto, using(crate::proofs::First::loops))]
 fn first_lacking(bytes: &[u8], image: &Image, counts: &Entry, strips: u32) -> Option<u32>
-    requires fields { HasFields bytes.now image.now }
+    requires fields { HasTagFields bytes.now image.now }
     requires counts { tag_entry bytes.now STRIP_BYTE_COUNTS ≡ Some counts.now }
     ensures { result ≡ first_below (λ k. nat_lt (strip_byte_count bytes.now k) (need bytes.now k)) strips }
 {
@@ -78,13 +78,13 @@ fn first_lacking(bytes: &[u8], image: &Image, counts: &Entry, strips: u32) -> Op
 }
 
 /// The strips aren't those of the image.
-#[tactic(auto, unfolding(cdb_tiff_base::specs::Strips::strips, cdb_tiff_base::specs::Causes::lacks_bytes, cdb_tiff_base::specs::Directory::count_of))]
+#[tactic(auto, unfolding(cdb_tiff_base::specs::Strips::strips, cdb_tiff_base::specs::Causes::lacks_bytes, cdb_tiff_base::specs::Directory::count_of_entry))]
 fn has_bad_strips(bytes: &[u8], image: &Image, counts: &Entry) -> bool
-    requires fields { HasFields bytes.now image.now }
+    requires fields { HasTagFields bytes.now image.now }
     requires counts { tag_entry bytes.now STRIP_BYTE_COUNTS ≡ Some counts.now }
     ensures { result ≡ (rows_per_strip bytes.now == 0 ||
-        (not (count_of bytes.now STRIP_OFFSETS == strips bytes.now) ||
-        (not (count_of bytes.now STRIP_BYTE_COUNTS == strips bytes.now) || lacks_bytes bytes.now))) }
+        (not (count_of_entry bytes.now STRIP_OFFSETS == strips bytes.now) ||
+        (not (count_of_entry bytes.now STRIP_BYTE_COUNTS == strips bytes.now) || lacks_bytes bytes.now))) }
 {
     if image.rows_per_strip == 0 {
         return true;
@@ -100,7 +100,7 @@ fn has_bad_strips(bytes: &[u8], image: &Image, counts: &Entry) -> bool
 #[tactic(auto, unfolding(cdb_tiff_base::specs::Causes::bad_strips))]
 pub fn check_strips(bytes: &[u8], d: Directory, image: &Image) -> Result<(), TiffError>
     requires directory { IsDirectory bytes.now d }
-    requires fields { HasFields bytes.now image.now }
+    requires fields { HasTagFields bytes.now image.now }
     requires byte_counts { IsSome (tag_entry bytes.now STRIP_BYTE_COUNTS) }
     ensures row { result ≡ pass (bad_strips bytes.now) }
     ensures has_rows { OnOk result (0 < image.now.rows_per_strip) }
@@ -114,7 +114,7 @@ pub fn check_strips(bytes: &[u8], d: Directory, image: &Image) -> Result<(), Tif
 
 /// The strip's samples end past the end of the file.
 fn is_short(bytes: &[u8], image: &Image, index: u32) -> bool
-    requires { HasFields bytes.now image.now }
+    requires { HasTagFields bytes.now image.now }
     ensures { result ≡ nat_lt (length bytes.now) (strip_offset bytes.now index + need bytes.now index) }
 {
     let offset = u64::from(offset_of(bytes, image, index));
@@ -124,7 +124,7 @@ fn is_short(bytes: &[u8], image: &Image, index: u32) -> bool
 /// The first strip whose samples end past the end of the file.
 #[tactic(auto, using(crate::proofs::First::loops))]
 fn first_short(bytes: &[u8], image: &Image, strips: u32) -> Option<u32>
-    requires { HasFields bytes.now image.now }
+    requires { HasTagFields bytes.now image.now }
     ensures { result ≡
         first_below (λ k. nat_lt (length bytes.now) (strip_offset bytes.now k + need bytes.now k)) strips }
 {
@@ -137,11 +137,11 @@ fn first_short(bytes: &[u8], image: &Image, strips: u32) -> Option<u32>
 }
 
 /// The samples of each strip end within the file.
-#[tactic(auto, unfolding(cdb_tiff_base::specs::Strips::strips, cdb_tiff_base::specs::Causes::short))]
+#[tactic(auto, unfolding(cdb_tiff_base::specs::Strips::strips, cdb_tiff_base::specs::Causes::is_cut_short))]
 pub fn check_short(bytes: &[u8], image: &Image) -> Result<(), TiffError>
-    requires fields { HasFields bytes.now image.now }
+    requires fields { HasTagFields bytes.now image.now }
     requires has_rows { 0 < image.now.rows_per_strip }
-    ensures { result ≡ pass (short bytes.now) }
+    ensures { result ≡ pass (is_cut_short bytes.now) }
 {
     let strips = strip_count(image);
     match first_short(bytes, image, strips) {

@@ -16,7 +16,7 @@ use Rattle.std.proofs.lemmas.Nat.{mul-le}
 use Rattle.std.proofs.Math.Pow.{pow_mono}
 use Rattle.cdb_source.specs.declared.kind.Kind.TheVariants.{Elevation}
 use Rattle.cdb_tiff_write.specs.Rasters.{tile_size}
-use Rattle.cdb_tiff_write.specs.SizeLaws.{AreSized}
+use Rattle.cdb_tiff_write.specs.SizeLaws.{TilesAreSized}
 
 row_long : (posts : List ℤ) → length (row_bytes posts) ≡ length posts * 2
 unfolding row_bytes
@@ -71,7 +71,7 @@ most_size f n le = let square : n * n ≤ 1024 * 1024 = mul-le n n 1024 1024 le 
     by High s = omega (arith, s)
     by Mat s = omega (arith, s)
 
-pub are_sized : AreSized
+pub are_sized : TilesAreSized
 are_sized = record {
   length_is = tile_bytes_long;
   elevations = λ t e. elevation_size t.family (tile_side t) e;

@@ -31,7 +31,7 @@ use Rattle.cdb_source.specs.declared.source.Source.{Source}
 use Rattle.cdb_model.specs.Text.{last_first}
 use Rattle.cdb_model.specs.TileFile.{head_bytes, row_bytes, small_row_bytes, bits_of, family_row, row_numbers, tile_bytes}
 use Rattle.cdb_tiff_write.specs.ReadLaws.{AreReadBack}
-use Rattle.cdb_tiff_write.specs.Samples.{sample_of}
+use Rattle.cdb_tiff_write.specs.Samples.{sample_in}
 use Rattle.cdb_tiff_write.proofs.Read.{number_there, all_map, all_pieces}
 use Rattle.cdb_tiff_write.proofs.Written.{rows_length}
 use Rattle.cdb_tiff_write.proofs.Range.{number_fits}
@@ -102,7 +102,7 @@ module _ (side : ℕ) (rows : ℕ → List ℤ) (long : (r : ℕ) → length (ro
 
   -- in two bytes each
   pub read_16 : ((r : ℕ) → All (FitsSigned w16) (rows r))
-      → sample_of 16 (head_bytes side 16 ++ last_first side (λ r. row_bytes (rows r))) place ≡ get_or (rows row) col (pos 0)
+      → sample_in 16 (head_bytes side 16 ++ last_first side (λ r. row_bytes (rows r))) place ≡ get_or (rows row) col (pos 0)
   read_16 fit =
       ap (λ (l : List ℕ). cast_signed w16 (from_le_bytes w16 (take 2 l))) (drop_past (head_bytes side 16) (last_first side (λ r. row_bytes (rows r))) 186 (2 * place) (head_long side))
       ∙ ap (λ (l : List ℕ). cast_signed w16 (from_le_bytes w16 (take 2 (drop (2 * place) l)))) (rows_spelled rows side)
@@ -111,7 +111,7 @@ module _ (side : ℕ) (rows : ℕ → List ℤ) (long : (r : ℕ) → length (ro
 
   -- in one byte each
   pub read_8 : ((r : ℕ) → All (IsPost Material) (rows r))
-      → sample_of 8 (head_bytes side 8 ++ last_first side (λ r. small_row_bytes (rows r))) place ≡ get_or (rows row) col (pos 0)
+      → sample_in 8 (head_bytes side 8 ++ last_first side (λ r. small_row_bytes (rows r))) place ≡ get_or (rows row) col (pos 0)
   read_8 fit =
       let numbers : List ℤ = last_first side rows in
       let here : get_or numbers place (pos 0) ≡ get_or (rows row) col (pos 0) = number_there rows side side row col long a b in
@@ -144,9 +144,9 @@ unfolding tile_bytes
 bytes_are ss t e = by_family t.family (tile_side t) (row_numbers ss t) e
 
 pub elevation_samples : (ss : List Source) (t : Tile) (row col : ℕ) → row < tile_side t → col < tile_side t → kind_of t.family ≡ Elevation
-    → sample_of 16 (tile_bytes ss t) ((tile_side t - 1 - row) * tile_side t + col) ≡ coded (kind_of t.family) (tile_value ss t row col)
+    → sample_in 16 (tile_bytes ss t) ((tile_side t - 1 - row) * tile_side t + col) ≡ coded (kind_of t.family) (tile_value ss t row col)
 elevation_samples ss t row col a b e =
-    ap (λ l. sample_of 16 l ((tile_side t - 1 - row) * tile_side t + col)) (bytes_are ss t e)
+    ap (λ l. sample_in 16 l ((tile_side t - 1 - row) * tile_side t + col)) (bytes_are ss t e)
     ∙ read_16 (tile_side t) (row_numbers ss t) (row_long ss t) row col a b
     (λ r. all_map (FitsSigned w16) (λ c. coded (kind_of t.family) (tile_value ss t r c)) 0 (tile_side t) (λ c. number_fits t.family ss (tile_height t) (element_corner t r c) e))
     ∙ number_is ss t row col b
@@ -156,23 +156,23 @@ unfolding tile_bytes
 material_bytes ss t e = ap (λ f. head_bytes (tile_side t) (bits_of f) ++ last_first (tile_side t) (λ r. family_row f (row_numbers ss t r))) e
 
 pub material_samples : (ss : List Source) (t : Tile) (row col : ℕ) → row < tile_side t → col < tile_side t → t.family ≡ Mat
-    → sample_of 8 (tile_bytes ss t) ((tile_side t - 1 - row) * tile_side t + col) ≡ coded (kind_of t.family) (tile_value ss t row col)
+    → sample_in 8 (tile_bytes ss t) ((tile_side t - 1 - row) * tile_side t + col) ≡ coded (kind_of t.family) (tile_value ss t row col)
 material_samples ss t row col a b e =
-    ap (λ l. sample_of 8 l ((tile_side t - 1 - row) * tile_side t + col)) (material_bytes ss t e)
+    ap (λ l. sample_in 8 l ((tile_side t - 1 - row) * tile_side t + col)) (material_bytes ss t e)
     ∙ read_8 (tile_side t) (row_numbers ss t) (row_long ss t) row col a b
     (λ r. all_map (IsPost Material) (λ c. coded (kind_of t.family) (tile_value ss t r c)) 0 (tile_side t) (λ c. number_post t.family ss (tile_height t) (element_corner t r c) e))
     ∙ number_is ss t row col b
 
 -- of every family
 pub tile_samples : (ss : List Source) (t : Tile) (row col : ℕ) → row < tile_side t → col < tile_side t
-    → sample_of (bits_of t.family) (tile_bytes ss t) ((tile_side t - 1 - row) * tile_side t + col) ≡ coded (kind_of t.family) (tile_value ss t row col)
+    → sample_in (bits_of t.family) (tile_bytes ss t) ((tile_side t - 1 - row) * tile_side t + col) ≡ coded (kind_of t.family) (tile_value ss t row col)
 tile_samples ss t row col a b = by t.family refl
   where
-    at : (bits : ℕ) → bits_of t.family ≡ bits → sample_of bits (tile_bytes ss t) ((tile_side t - 1 - row) * tile_side t + col) ≡ coded (kind_of t.family) (tile_value ss t row col)
-        → sample_of (bits_of t.family) (tile_bytes ss t) ((tile_side t - 1 - row) * tile_side t + col) ≡ coded (kind_of t.family) (tile_value ss t row col)
-    at bits e k = ap (λ n. sample_of n (tile_bytes ss t) ((tile_side t - 1 - row) * tile_side t + col)) e ∙ k
+    at : (bits : ℕ) → bits_of t.family ≡ bits → sample_in bits (tile_bytes ss t) ((tile_side t - 1 - row) * tile_side t + col) ≡ coded (kind_of t.family) (tile_value ss t row col)
+        → sample_in (bits_of t.family) (tile_bytes ss t) ((tile_side t - 1 - row) * tile_side t + col) ≡ coded (kind_of t.family) (tile_value ss t row col)
+    at bits e k = ap (λ n. sample_in n (tile_bytes ss t) ((tile_side t - 1 - row) * tile_side t + col)) e ∙ k
 
-    by : (f : Family) → t.family ≡ f → sample_of (bits_of t.family) (tile_bytes ss t) ((tile_side t - 1 - row) * tile_side t + col) ≡ coded (kind_of t.family) (tile_value ss t row col)
+    by : (f : Family) → t.family ≡ f → sample_in (bits_of t.family) (tile_bytes ss t) ((tile_side t - 1 - row) * tile_side t + col) ≡ coded (kind_of t.family) (tile_value ss t row col)
     by Elev e = at 16 (ap bits_of e) (elevation_samples ss t row col a b (ap kind_of e))
     by Low e = at 16 (ap bits_of e) (elevation_samples ss t row col a b (ap kind_of e))
     by High e = at 16 (ap bits_of e) (elevation_samples ss t row col a b (ap kind_of e))
@@ -180,14 +180,14 @@ tile_samples ss t row col a b = by t.family refl
 
 -- the posts that are read of a tile's file are those of the tile
 pub frame_read : (ss : List Source) (t : Tile) (bytes : List ℕ) (to : List ℤ) (side bits : ℕ) → side ≡ tile_side t → bits ≡ bits_of t.family → bytes ≡ tile_bytes ss t → length to ≡ side * side
-    → ((row col : ℕ) → row < side → col < side → number_at to side (0 + row) (0 + col) ≡ sample_of bits bytes ((side - 1 - row) * side + col)) → IsFrameOf ss t to
+    → ((row col : ℕ) → row < side → col < side → number_at to side (0 + row) (0 + col) ≡ sample_in bits bytes ((side - 1 - row) * side + col)) → IsFrameOf ss t to
 frame_read ss t bytes to side bits es eb e size each = record {
   size = size ∙ ap (λ n. n * n) es;
   each = λ row col a b.
       let zr : row ≡ 0 + row = omega arith in let zc : col ≡ 0 + col = omega arith in
       ap (λ n. number_at to n row col) (sym es) ∙ ap₂ (λ x y. number_at to side x y) zr zc ∙ each row col (subst (λ n. row < n) (sym es) a) (subst (λ n. col < n) (sym es) b)
-      ∙ ap (λ n. sample_of bits bytes ((n - 1 - row) * n + col)) es
-      ∙ ap₂ (λ n l. sample_of n l ((tile_side t - 1 - row) * tile_side t + col)) eb e ∙ tile_samples ss t row col a b;
+      ∙ ap (λ n. sample_in bits bytes ((n - 1 - row) * n + col)) es
+      ∙ ap₂ (λ n l. sample_in n l ((tile_side t - 1 - row) * tile_side t + col)) eb e ∙ tile_samples ss t row col a b;
 }
 
 pub are_read_back : AreReadBack

@@ -19,34 +19,34 @@ use Rattle.cdb_model.specs.TileFile as file
 use Rattle.cdb_model.specs.TileFile.{bits_of, family_row, row_numbers}
 use Rattle.cdb_model.specs.ByteLaws.{tile_numbers, IsWrittenTile}
 
-same_head : (side : ℕ) → file.head_bytes side 16 ≡ written.head_bytes side 16
-unfolding file.head_bytes written.head_bytes
+same_head : (side : ℕ) → file.head_bytes side 16 ≡ written.written_head side 16
+unfolding file.head_bytes written.written_head
 same_head side = refl
 
-same_row : (posts : List ℤ) → file.row_bytes posts ≡ written.raster_bytes posts
+same_row : (posts : List ℤ) → file.row_bytes posts ≡ written.written_raster posts
 unfolding file.row_bytes
 same_row posts = refl
 
-two_rows : (xs ys : List ℤ) → written.raster_bytes (xs ++ ys) ≡ written.raster_bytes xs ++ written.raster_bytes ys
+two_rows : (xs ys : List ℤ) → written.written_raster (xs ++ ys) ≡ written.written_raster xs ++ written.written_raster ys
 two_rows xs ys = flat_map-append (λ v. little_bytes 2 (cast_unsigned w16 v)) xs ys
 
 -- rows that are spelled one by one are spelled in one
-same_raster : (rows : ℕ → List ℤ) (n : ℕ) → last_first n (λ r. file.row_bytes (rows r)) ≡ written.raster_bytes (last_first n rows)
+same_raster : (rows : ℕ → List ℤ) (n : ℕ) → last_first n (λ r. file.row_bytes (rows r)) ≡ written.written_raster (last_first n rows)
 same_raster rows zero = refl
 same_raster rows (suc n) =
-    ap (λ (l : List ℕ). l ++ last_first n (λ r. file.row_bytes (rows r))) (same_row (rows n)) ∙ ap (λ (l : List ℕ). written.raster_bytes (rows n) ++ l) (same_raster rows n)
+    ap (λ (l : List ℕ). l ++ last_first n (λ r. file.row_bytes (rows r))) (same_row (rows n)) ∙ ap (λ (l : List ℕ). written.written_raster (rows n) ++ l) (same_raster rows n)
     ∙ sym (two_rows (rows n) (last_first n rows))
 
-whole : (side : ℕ) (rows : ℕ → List ℤ) → file.head_bytes side 16 ++ last_first side (λ r. file.row_bytes (rows r)) ≡ written.tile_bytes side (last_first side rows)
-whole side rows = ap (λ (l : List ℕ). l ++ last_first side (λ r. file.row_bytes (rows r))) (same_head side) ∙ ap (λ (l : List ℕ). written.head_bytes side 16 ++ l) (same_raster rows side)
+whole : (side : ℕ) (rows : ℕ → List ℤ) → file.head_bytes side 16 ++ last_first side (λ r. file.row_bytes (rows r)) ≡ written.written_tile side (last_first side rows)
+whole side rows = ap (λ (l : List ℕ). l ++ last_first side (λ r. file.row_bytes (rows r))) (same_head side) ∙ ap (λ (l : List ℕ). written.written_head side 16 ++ l) (same_raster rows side)
 
-by_family : (f : Family) (side : ℕ) (rows : ℕ → List ℤ) → kind_of f ≡ Elevation → file.head_bytes side (bits_of f) ++ last_first side (λ r. family_row f (rows r)) ≡ written.tile_bytes side (last_first side rows)
+by_family : (f : Family) (side : ℕ) (rows : ℕ → List ℤ) → kind_of f ≡ Elevation → file.head_bytes side (bits_of f) ++ last_first side (λ r. family_row f (rows r)) ≡ written.written_tile side (last_first side rows)
 by_family Elev side rows e = whole side rows
 by_family Low side rows e = whole side rows
 by_family High side rows e = whole side rows
 by_family Mat side rows e = cc
 
-same_file : (t : Tile) (ss : List Source) → kind_of t.family ≡ Elevation → file.tile_bytes ss t ≡ written.tile_bytes (tile_side t) (tile_numbers ss t)
+same_file : (t : Tile) (ss : List Source) → kind_of t.family ≡ Elevation → file.tile_bytes ss t ≡ written.written_tile (tile_side t) (tile_numbers ss t)
 unfolding file.tile_bytes
 same_file t ss e = by_family t.family (tile_side t) (row_numbers ss t) e
 

@@ -11,7 +11,7 @@ use Rattle.cdb_tiff_write.specs.Rasters.{tile_size}
 
 -- it follows from the tile alone: two bytes for each elevation and one for each material after a head of 186 bytes, and
 -- 2,097,338 bytes at most
-pub record AreSized : Type 0 where
+pub record TilesAreSized : Type 0 where
   pub length_is : (ss : List Source) (t : Tile) → length (tile_bytes ss t) ≡ tile_size t
   pub elevations : (t : Tile) → kind_of t.family ≡ Elevation → tile_size t ≡ 186 + 2 * tile_side t * tile_side t
   pub materials : (t : Tile) → t.family ≡ Mat → tile_size t ≡ 186 + tile_side t * tile_side t

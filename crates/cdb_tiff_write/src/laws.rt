@@ -1,7 +1,7 @@
 //! Laws of the bytes of a tile's file, each the contract of a function that does nothing.
 ghost use Rattle.cdb_model.specs.ByteLaws.{BytesByReaching, IsWrittenTile};
-ghost use Rattle.cdb_tiff_write.specs.ReadLaws.{AreRead, AreReadBack, SamplesAreValues};
-ghost use Rattle.cdb_tiff_write.specs.SizeLaws.{AreSized};
+ghost use Rattle.cdb_tiff_write.specs.ReadLaws.{TilesAreRead, AreReadBack, SamplesAreValues};
+ghost use Rattle.cdb_tiff_write.specs.SizeLaws.{TilesAreSized};
 
 /// A tile's file depends on the sources that reach the tile, in their order, and on no other: what
 /// doesn't reach a tile leaves its file as it was.
@@ -19,7 +19,7 @@ pub fn tiles_are_written_files()
 /// The reader of TIFF files refuses no file of a tile of elevations, or of least or greatest ones, and
 /// gives back the tile's values.
 pub fn tiles_are_read()
-    ensures { AreRead }
+    ensures { TilesAreRead }
 {}
 
 /// The samples of the file of a tile are the tile's values.
@@ -35,5 +35,5 @@ pub fn rows_are_read_back()
 
 /// The length of a tile's file follows from the tile alone, and is at most 2,097,338 bytes.
 pub fn tiles_are_sized()
-    ensures { AreSized }
+    ensures { TilesAreSized }
 {}

@@ -6,7 +6,7 @@ ghost use Rattle.cdb_grid.specs.declared.tile.Tile as tiles;
 ghost use Rattle.cdb_source.specs.declared.source.Source as sources;
 ghost use Rattle.cdb_model.specs.TileFile.{bits_of, tile_bytes};
 ghost use Rattle.cdb_cut.specs.OneTile.{IsFrameOf};
-ghost use Rattle.cdb_tiff_write.specs.Samples.{sample_of, HasRaster};
+ghost use Rattle.cdb_tiff_write.specs.Samples.{sample_in, HasRaster};
 
 use crate::size::HEAD_BYTES;
 use cdb_grid::{RowRule, Spot, change_part};
@@ -25,7 +25,7 @@ fn sample(bytes: &[u8], bits: u8, number: usize) -> i16
     requires bits { IsTrue (bits == 8 || bits == 16) }
     requires within { 186 + (number + 1) * (bits / 8) ≤ length bytes.now }
     requires small { number < 1048576 }
-    ensures { result ≡ sample_of bits bytes.now number }
+    ensures { result ≡ sample_in bits bytes.now number }
 {
     if bits == 8 {
         bytes[HEAD_BYTES + number] as i16
@@ -38,7 +38,7 @@ fn sample(bytes: &[u8], bits: u8, number: usize) -> i16
 impl RowRule for Raster<'_> {
     ghost has_row = { λ r row cols. HasRaster r.bytes.now r.side r.bits row cols };
 
-    ghost rule = { λ r row col old. sample_of r.bits r.bytes.now ((r.side - 1 - row) * r.side + col) };
+    ghost rule = { λ r row col old. sample_in r.bits r.bytes.now ((r.side - 1 - row) * r.side + col) };
 
     fn change_row(&self, row: usize, part: &mut [i16]) {
         let from = (self.side - 1 - row) * self.side;
@@ -57,7 +57,7 @@ pub fn posts_of(bytes: &[u8], side: u32, bits: u8, to: &mut [i16])
     requires bytes { length bytes.now ≡ 186 + side * side * (bits / 8) }
     requires to { length to.old ≡ side * side }
     ensures size { length to.new ≡ length to.old }
-    ensures each { (row col : ℕ) → row < side → col < side → number_at to.new side row col ≡ sample_of bits
+    ensures each { (row col : ℕ) → row < side → col < side → number_at to.new side row col ≡ sample_in bits
         bytes.now ((side - 1 - row) * side + col) }
     ensures tile { (ss : List sources.Source) (t : tiles.Tile) → side ≡ tile_side t → bits ≡ bits_of t.family →
         bytes.now ≡ tile_bytes ss t → IsFrameOf ss t to.new }

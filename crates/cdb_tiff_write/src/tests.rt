@@ -46,7 +46,7 @@ fn tile(family: Family, level: i32) -> Result<Tile, Fail> {
 }
 
 /// Writes a frame into the file of a tile, and reads it back. None where the lengths don't fit.
-fn written(tile: &Tile, frame: &[i16], bytes: &mut [u8], back: &mut [i16]) -> Option<()> {
+fn write_and_read(tile: &Tile, frame: &[i16], bytes: &mut [u8], back: &mut [i16]) -> Option<()> {
     let side = side(tile.level);
     let elements = side as usize * side as usize;
     if frame.len() != elements || bytes.len() != tile_size(tile) || back.len() != elements {
@@ -65,7 +65,7 @@ fn files_of_frames(rt: HostRuntime) -> Result<(), Fail> {
         let mut back = [0; 4];
         let bytes = bytes.get_mut(..186 + raster.len()).ok_or("bytes")?;
         let back = back.get_mut(..frame.len()).ok_or("frame")?;
-        written(&tile, frame, bytes, back).ok_or("lengths")?;
+        write_and_read(&tile, frame, bytes, back).ok_or("lengths")?;
         let (first, rest) = bytes.split_at_checked(186).ok_or("head")?;
         assert_eq!(rt; first, head(side(tile.level), bits(*family)).as_slice());
         assert_eq!(rt; rest, *raster);

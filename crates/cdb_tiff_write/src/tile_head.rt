@@ -2,7 +2,7 @@
 //! elsewhere (TIFF 6.0, sections 2 and 8). All numbers are little endian.
 ghost use Rattle.std.specs.Prelude.{◌≡◌, ◌+◌, ◌≤◌, ◌==◌, ◌||◌, ◌++◌, IsTrue, codes, length};
 ghost use Rattle.arrayvec.specs.ArrayVec.{array_vec_len};
-ghost use Rattle.cdb_model.specs.TileFile.{short_bytes, long_bytes, short, long, rational, entry, head_bytes};
+ghost use Rattle.cdb_model.specs.TileFile.{short_bytes, long_bytes, short, long, rational, tile_entry, head_bytes};
 
 use crate::size::HEAD_BYTES;
 use arrayvec::ArrayVec;
@@ -67,7 +67,7 @@ fn put_header(head: &mut Head)
 /// An entry whose value is one SHORT.
 fn put_short_entry(head: &mut Head, tag: u16, value: u16)
     requires { array_vec_len head.old + 12 ≤ 186 }
-    ensures bytes { head.new.items ≡ head.old.items ++ entry tag short 1 value }
+    ensures bytes { head.new.items ≡ head.old.items ++ tile_entry tag short 1 value }
     ensures len { array_vec_len head.new ≡ array_vec_len head.old + 12 }
 {
     put_kind(head, tag, SHORT);
@@ -78,7 +78,7 @@ fn put_short_entry(head: &mut Head, tag: u16, value: u16)
 /// An entry whose value is one LONG.
 fn put_long_entry(head: &mut Head, tag: u16, value: u32)
     requires { array_vec_len head.old + 12 ≤ 186 }
-    ensures bytes { head.new.items ≡ head.old.items ++ entry tag long 1 value }
+    ensures bytes { head.new.items ≡ head.old.items ++ tile_entry tag long 1 value }
     ensures len { array_vec_len head.new ≡ array_vec_len head.old + 12 }
 {
     put_kind(head, tag, LONG);
@@ -88,7 +88,7 @@ fn put_long_entry(head: &mut Head, tag: u16, value: u32)
 /// An entry whose value is one RATIONAL, which stands at the byte `place`.
 fn put_rational_entry(head: &mut Head, tag: u16, place: u32)
     requires { array_vec_len head.old + 12 ≤ 186 }
-    ensures bytes { head.new.items ≡ head.old.items ++ entry tag rational 1 place }
+    ensures bytes { head.new.items ≡ head.old.items ++ tile_entry tag rational 1 place }
     ensures len { array_vec_len head.new ≡ array_vec_len head.old + 12 }
 {
     put_kind(head, tag, RATIONAL);

@@ -9,24 +9,24 @@ use Rattle.cdb_source.specs.declared.head.SourceHead.{SourceHead}
 use Rattle.cdb_source.specs.Reached.{Reaches, Reached}
 use Rattle.cdb_touch.specs.declared.axis.Run.{Run}
 use Rattle.cdb_touch.specs.Numbers.{row_number, column_number, IsNumbered, IsInRow, IsInRectangle}
-use Rattle.cdb_touch.specs.Touched.{Adds}
+use Rattle.cdb_touch.specs.Touched.{AddsTiles}
 use Rattle.cdb_touch.proofs.TileNumbers.{numbered-only}
 
-pub Adds-none : (M : Tile → Type 0) (xs : List Tile) → ((t : Tile) → M t → ⊥) → Adds M xs xs
+pub Adds-none : (M : Tile → Type 0) (xs : List Tile) → ((t : Tile) → M t → ⊥) → AddsTiles M xs xs
 Adds-none M xs out = record { each = λ t. (λ c. inl c, keep t) }
   where
     keep : (t : Tile) → Contains xs t ⊎ M t → Contains xs t
     keep t (inl c) = c
     keep t (inr m) = absurd (out t m)
 
-pub Adds-one : (xs : List Tile) (x : Tile) → Adds (λ t. x ≡ t) xs (xs ++ x ∷ [])
+pub Adds-one : (xs : List Tile) (x : Tile) → AddsTiles (λ t. x ≡ t) xs (xs ++ x ∷ [])
 Adds-one xs x = record { each = λ t. (λ c. Contains-push_cases xs x t c, put t) }
   where
     put : (t : Tile) → Contains xs t ⊎ (x ≡ t) → Contains (xs ++ x ∷ []) t
     put t (inl c) = Contains-append_left xs (x ∷ []) t c
     put t (inr e) = subst (λ u. Contains (xs ++ x ∷ []) u) e (Contains-push xs x)
 
-pub Adds-then : (A B M : Tile → Type 0) (xs ys zs : List Tile) → Adds A xs ys → Adds B ys zs → ((t : Tile) → (A t ⊎ B t) ↔ M t) → Adds M xs zs
+pub Adds-then : (A B M : Tile → Type 0) (xs ys zs : List Tile) → AddsTiles A xs ys → AddsTiles B ys zs → ((t : Tile) → (A t ⊎ B t) ↔ M t) → AddsTiles M xs zs
 Adds-then A B M xs ys zs a b same = record { each = λ t. (λ c. split t ((b.each t).0 c), join t) }
   where
     first : (t : Tile) → Contains xs t ⊎ A t → Contains xs t ⊎ M t
@@ -45,7 +45,7 @@ Adds-then A B M xs ys zs a b same = record { each = λ t. (λ c. split t ((b.eac
     join t (inl c) = (b.each t).1 (inl ((a.each t).1 (inl c)))
     join t (inr m) = part t ((same t).1 m)
 
-pub Adds-iff : (A B : Tile → Type 0) (xs ys : List Tile) → ((t : Tile) → A t ↔ B t) → Adds A xs ys → Adds B xs ys
+pub Adds-iff : (A B : Tile → Type 0) (xs ys : List Tile) → ((t : Tile) → A t ↔ B t) → AddsTiles A xs ys → AddsTiles B xs ys
 Adds-iff A B xs ys same a = record { each = λ t. (λ c. to t ((a.each t).0 c), λ s. (a.each t).1 (from t s)) }
   where
     to : (t : Tile) → Contains xs t ⊎ A t → Contains xs t ⊎ B t
@@ -152,7 +152,7 @@ ok_fact (Ok x) P e p = p
 ok_fact (Err x) P e p = absurd (cc)
 
 -- a list that grew from nothing by a set has its tiles
-pub grown : (M : Tile → Type 0) (xs ys : List Tile) → xs ≡ [] → Adds M xs ys → (t : Tile) → Contains ys t ↔ M t
+pub grown : (M : Tile → Type 0) (xs ys : List Tile) → xs ≡ [] → AddsTiles M xs ys → (t : Tile) → Contains ys t ↔ M t
 grown M xs ys e a t = (λ c. to ((a.each t).0 c), λ m. (a.each t).1 (inr m))
   where
     to : Contains xs t ⊎ M t → M t

@@ -9,7 +9,7 @@ use Rattle.std.proofs.lemmas.Nat.Gcd.{dvd_trans}
 use Rattle.cdb_grid.proofs.GridLaws.{next_multiple}
 use Rattle.cdb_source.specs.declared.kind.Kind.{Kind}
 use Rattle.cdb_source.specs.declared.kind.Kind.TheVariants.{Elevation, Material}
-use Rattle.cdb_touch.specs.Axis.{HasPlace, HoldsMultiple, inset_of}
+use Rattle.cdb_touch.specs.Axis.{HasPlaceOnAxis, HoldsMultiple, inset_of}
 
 -- the first multiple of a step that isn't below a number
 pub record IsFirst (step low first : ℕ) : Type 0 where
@@ -97,7 +97,7 @@ past_corners Elevation step far globe = min (far + 1) globe
 past_corners Material step far globe = far - step / 2
 
 pub place_to : (kind : Kind) (step near far extent globe n : ℕ) → 1 ≤ step → step ∣ extent → (n + 1) * extent ≤ globe
-    → HasPlace kind step near far extent n → HoldsMultiple step (near - inset_of kind step) (past_corners kind step far globe) extent n
+    → HasPlaceOnAxis kind step near far extent n → HoldsMultiple step (near - inset_of kind step) (past_corners kind step far globe) extent n
 place_to Elevation step near far extent globe n p d within h =
     let a = h.from_low in let b = h.below_high in let x = h.from_near in let y = h.to_far in
     record { at = h.corner; multiple = h.on_grid; above = omega arith; below = omega arith; south = omega arith; north = omega arith }
@@ -107,7 +107,7 @@ place_to Material step near far extent globe n p d within h =
     record { at = h.corner; multiple = h.on_grid; above = omega arith; below = omega arith; south = low; north = omega arith }
 
 pub place_from : (kind : Kind) (step near far extent globe n : ℕ) → 1 ≤ step → step ∣ extent
-    → HoldsMultiple step (near - inset_of kind step) (past_corners kind step far globe) extent n → HasPlace kind step near far extent n
+    → HoldsMultiple step (near - inset_of kind step) (past_corners kind step far globe) extent n → HasPlaceOnAxis kind step near far extent n
 place_from Elevation step near far extent globe n p d m =
     let a = m.above in let b = m.below in let x = m.south in let y = m.north in
     record { corner = m.at; on_grid = m.multiple; from_low = omega arith; below_high = omega arith; from_near = omega arith; to_far = omega arith }
@@ -119,7 +119,7 @@ place_from Material step near far extent globe n p d m =
 pub each_place : (kind : Kind) (step near far extent globe low high first end n : ℕ) → 1 ≤ step → step ∣ extent
     → low ≡ near - inset_of kind step → high ≡ past_corners kind step far globe
     → HoldsMultiple step low high extent n ↔ ((first ≤ n) × (n < end)) → (n + 1) * extent ≤ globe
-    → HasPlace kind step near far extent n ↔ ((first ≤ n) × (n < end))
+    → HasPlaceOnAxis kind step near far extent n ↔ ((first ≤ n) × (n < end))
 each_place kind step near far extent globe low high first end n p d el eh i within = (
   (λ h. i.0 (subst (λ m. HoldsMultiple step m high extent n) (sym el)
       (subst (λ m. HoldsMultiple step (near - inset_of kind step) m extent n) (sym eh)
@@ -131,12 +131,12 @@ each_place kind step near far extent globe low high first end n p d el eh i with
 
 -- the same parts by equal numbers
 pub place_same : (kind : Kind) (s s' a a' b b' e e' n : ℕ) (B : Type 0) → s ≡ s' → a ≡ a' → b ≡ b' → e ≡ e'
-    → HasPlace kind s a b e n ↔ B → HasPlace kind s' a' b' e' n ↔ B
+    → HasPlaceOnAxis kind s a b e n ↔ B → HasPlaceOnAxis kind s' a' b' e' n ↔ B
 place_same kind s s' a a' b b' e e' n B es ea eb ee i =
-    subst (λ m. HasPlace kind s' a' b' m n ↔ B) ee
-    (subst (λ m. HasPlace kind s' a' m e n ↔ B) eb
-    (subst (λ m. HasPlace kind s' m b e n ↔ B) ea
-    (subst (λ m. HasPlace kind m a b e n ↔ B) es i)))
+    subst (λ m. HasPlaceOnAxis kind s' a' b' m n ↔ B) ee
+    (subst (λ m. HasPlaceOnAxis kind s' a' m e n ↔ B) eb
+    (subst (λ m. HasPlaceOnAxis kind s' m b e n ↔ B) ea
+    (subst (λ m. HasPlaceOnAxis kind m a b e n ↔ B) es i)))
 
 pub dvd_same : (s s' e e' : ℕ) → s ≡ s' → e ≡ e' → s' ∣ e' → s ∣ e
 dvd_same s s' e e' es ee d = subst (λ m. m ∣ e) (sym es) (subst (λ m. s' ∣ m) (sym ee) d)

@@ -17,7 +17,7 @@ use Rattle.cdb_source.specs.declared.kind.Kind.{Kind}
 use Rattle.cdb_source.specs.declared.head.SourceHead.{SourceHead}
 use Rattle.cdb_source.specs.Sample.{corner_of, box_height, box_width, IsBefore}
 use Rattle.cdb_source.specs.Reached.{kind_of, source_height, Reaches}
-use Rattle.cdb_touch.specs.Axis.{HasPlace, inset_of}
+use Rattle.cdb_touch.specs.Axis.{HasPlaceOnAxis, inset_of}
 use Rattle.cdb_touch.specs.Numbers.{tile_width, row_number, column_number}
 use Rattle.cdb_touch.specs.Reach.{HasRow, HasColumn}
 use Rattle.cdb_touch.proofs.AxisLaws.{inset-below, corner_in_part}
@@ -106,7 +106,7 @@ reaches_to head t r =
     place-east t.family k c p ∙ ap (λ m. c.east + inset_of kind (m * step k)) w in
     let rows : ℕ = row_number t * (tile_side t * step (tile_height t)) in
     let columns : ℕ = column_number t * (tile_side t * tile_step_east t) in
-    let row : HasPlace kind (step k) (corner_of head).north ((corner_of head).north + box_height head) (tile_side t * step (tile_height t)) (row_number t) = record {
+    let row : HasPlaceOnAxis kind (step k) (corner_of head).north ((corner_of head).north + box_height head) (tile_side t * step (tile_height t)) (row_number t) = record {
       corner = c.north;
       on_grid = r.on_grid.on_row;
       from_low = subst (λ m. rows ≤ m) en n.south;
@@ -115,7 +115,7 @@ reaches_to head t r =
       to_far = subst (λ m. IsBefore kind m ((corner_of head).north + box_height head)) en
           (subst (λ j. IsBefore j at.north ((corner_of head).north + box_height head)) r.kind r.in_box.north);
     } in
-    let column : HasPlace kind (tile_width t * step k) (corner_of head).east ((corner_of head).east + box_width head) (tile_side t * tile_step_east t) (column_number t) = record {
+    let column : HasPlaceOnAxis kind (tile_width t * step k) (corner_of head).east ((corner_of head).east + box_width head) (tile_side t * tile_step_east t) (column_number t) = record {
       corner = c.east;
       on_grid = subst (λ m. m * step k ∣ c.east) w r.on_grid.on_column;
       from_low = subst (λ m. columns ≤ m) ee n.west;
@@ -124,8 +124,8 @@ reaches_to head t r =
       to_far = subst (λ m. IsBefore kind m ((corner_of head).east + box_width head)) ee
           (subst (λ j. IsBefore j at.east ((corner_of head).east + box_width head)) r.kind r.in_box.east);
     } in (
-      subst (λ j. HasPlace j (step k) (corner_of head).north ((corner_of head).north + box_height head) (tile_side t * step (tile_height t)) (row_number t)) (sym r.kind) row,
-      subst (λ j. HasPlace j (tile_width t * step k) (corner_of head).east ((corner_of head).east + box_width head) (tile_side t * tile_step_east t) (column_number t)) (sym r.kind) column,
+      subst (λ j. HasPlaceOnAxis j (step k) (corner_of head).north ((corner_of head).north + box_height head) (tile_side t * step (tile_height t)) (row_number t)) (sym r.kind) row,
+      subst (λ j. HasPlaceOnAxis j (tile_width t * step k) (corner_of head).east ((corner_of head).east + box_width head) (tile_side t * tile_step_east t) (column_number t)) (sym r.kind) column,
     )
 
 pub reaches_from : (head : SourceHead) (t : Tile) → head.kind ≡ kind_of t.family → source_height head ≤ tile_height t
@@ -138,10 +138,10 @@ reaches_from head t e le a' b' =
     let columns : ℕ = tile_side t * tile_step_east t in
     let north : ℕ = (corner_of head).north + box_height head in
     let east : ℕ = (corner_of head).east + box_width head in
-    let a : HasPlace kind (step k) (corner_of head).north north rows (row_number t) =
-    subst (λ j. HasPlace j (step k) (corner_of head).north north rows (row_number t)) e a' in
-    let b : HasPlace kind (tile_width t * step k) (corner_of head).east east columns (column_number t) =
-    subst (λ j. HasPlace j (tile_width t * step k) (corner_of head).east east columns (column_number t)) e b' in
+    let a : HasPlaceOnAxis kind (step k) (corner_of head).north north rows (row_number t) =
+    subst (λ j. HasPlaceOnAxis j (step k) (corner_of head).north north rows (row_number t)) e a' in
+    let b : HasPlaceOnAxis kind (tile_width t * step k) (corner_of head).east east columns (column_number t) =
+    subst (λ j. HasPlaceOnAxis j (tile_width t * step k) (corner_of head).east east columns (column_number t)) e b' in
     let c : Place = record { north = a.corner; east = b.corner } in
     let wide : 1 ≤ tile_width t * step k = wide_step (tile_width t) k (width-pos (row_of t.cell.lat)) in
     let an = a.below_high in let bn = b.below_high in

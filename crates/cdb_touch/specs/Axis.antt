@@ -12,7 +12,7 @@ inset_of Material step = step / 2
 
 -- the part of an axis with this number, where all parts have one extent, has a place that lies in the box of a
 -- source from its near edge to its far edge
-pub record HasPlace (kind : Kind) (step near far extent number : ℕ) : Type 0 where
+pub record HasPlaceOnAxis (kind : Kind) (step near far extent number : ℕ) : Type 0 where
   pub corner : ℕ
   pub on_grid : step ∣ corner
   pub from_low : number * extent ≤ corner + inset_of kind step

@@ -7,18 +7,18 @@ use Rattle.cdb_grid.specs.declared.tile.Tile.{Tile}
 use Rattle.cdb_source.specs.declared.head.SourceHead.{SourceHead}
 use Rattle.cdb_source.specs.Sample.{corner_of, box_height, box_width}
 use Rattle.cdb_source.specs.Reached.{source_height, Reaches}
-use Rattle.cdb_touch.specs.Axis.{HasPlace}
+use Rattle.cdb_touch.specs.Axis.{HasPlaceOnAxis}
 
 -- the row of tiles of a height with this number has a place of the source's level in its box
 abbrev pub HasRow : SourceHead → ℕ → ℕ → Type 0
 HasRow head h number =
-    HasPlace head.kind (step (source_height head)) (corner_of head).north ((corner_of head).north + box_height head)
+    HasPlaceOnAxis head.kind (step (source_height head)) (corner_of head).north ((corner_of head).north + box_height head)
     (side_of h * step h) number
 
 -- the same of a column of tiles of a height, where geocells have a width
 abbrev pub HasColumn : SourceHead → ℕ → ℕ → ℕ → Type 0
 HasColumn head h width number =
-    HasPlace head.kind (width * step (source_height head)) (corner_of head).east
+    HasPlaceOnAxis head.kind (width * step (source_height head)) (corner_of head).east
     ((corner_of head).east + box_width head) (side_of h * (width * step h)) number
 
 -- a tile of a family that a source reaches

@@ -13,7 +13,7 @@ abbrev pub IsAscending : List Tile → Type 0
 IsAscending tiles = AllPairs (λ s t. tile_cmp s t ≡ Less) tiles
 
 -- a list has the tiles of another and those of a set
-pub record Adds (Member : Tile → Type 0) (before after : List Tile) : Type 0 where
+pub record AddsTiles (Member : Tile → Type 0) (before after : List Tile) : Type 0 where
   pub each : (t : Tile) → Contains after t ↔ (Contains before t ⊎ Member t)
 
 -- where an error tells a load, it is the load of the sources

@@ -1,7 +1,7 @@
 //! One axis of the globe, in arc units from its beginning, cut into parts of one extent.
 ghost use Prim.Native.Nat.{◌∣◌};
 ghost use Rattle.std.specs.Prelude.{◌≡◌, ℕ, ◌↔◌, ◌+◌, ◌-◌, ◌*◌, ◌^◌, ◌≤◌, ◌<◌, IsTrue};
-ghost use Rattle.cdb_touch.specs.Axis.{HasPlace, HoldsMultiple, inset_of};
+ghost use Rattle.cdb_touch.specs.Axis.{HasPlaceOnAxis, HoldsMultiple, inset_of};
 
 use cdb_source::Kind;
 
@@ -65,7 +65,7 @@ pub(crate) fn with_places(
     requires far { far ≤ globe }
     requires globe { globe < 2 ^ 59 }
     ensures each { (n : ℕ) → (n + 1) * extent ≤ globe →
-        HasPlace kind step near far extent n ↔ ((result.first ≤ n) × (n < result.end)) }
+        HasPlaceOnAxis kind step near far extent n ↔ ((result.first ≤ n) × (n < result.end)) }
     ensures order { result.first ≤ result.end }
     ensures within { (all : ℕ) → globe ≤ all * extent → result.end ≤ all }
 {

@@ -4,7 +4,7 @@ ghost use Rattle.cdb_grid.specs.Units.{tiles_of, width_at};
 ghost use Rattle.cdb_source.specs.Reached.{kind_of, source_height, Reaches, Reached};
 ghost use Rattle.cdb_touch.specs.Numbers.{IsInRow, IsInRectangle};
 ghost use Rattle.cdb_touch.specs.Reach.{IsOfFamily, IsOfHeight};
-ghost use Rattle.cdb_touch.specs.Touched.{Adds};
+ghost use Rattle.cdb_touch.specs.Touched.{AddsTiles};
 
 use crate::axis::Run;
 use crate::heights::COARSEST;
@@ -26,7 +26,7 @@ fn push_row(
     requires most { height ≤ 34 }
     requires row { row < 180 * tiles_of height }
     requires columns { columns.end ≤ 360 / width_at (row / tiles_of height) * tiles_of height }
-    ensures { OnOk result (Adds (IsInRow family height row columns) tiles.old.items tiles.new.items) }
+    ensures { OnOk result (AddsTiles (IsInRow family height row columns) tiles.old.items tiles.new.items) }
 {
     for column in columns.first..columns.end {
         tiles.push(tile_at(family, height, row, column))?;
@@ -49,7 +49,7 @@ fn push_rectangle(
     requires north { rectangle.rows.end ≤ geocells * tiles_of height + tiles_of height }
     requires east { rectangle.columns.end ≤ 360 / width_at geocells * tiles_of height }
     ensures { OnOk result
-        (Adds (IsInRectangle family height rectangle.rows rectangle.columns) tiles.old.items tiles.new.items) }
+        (AddsTiles (IsInRectangle family height rectangle.rows rectangle.columns) tiles.old.items tiles.new.items) }
 {
     if rectangle.columns.len() == 0 {
         return Ok(());
@@ -70,7 +70,7 @@ fn push_height(
     requires kind { head.now.kind ≡ kind_of family }
     requires finer { source_height head.now ≤ height }
     requires most { height ≤ 34 }
-    ensures { OnOk result (Adds (IsOfHeight head.now family height) tiles.old.items tiles.new.items) }
+    ensures { OnOk result (AddsTiles (IsOfHeight head.now family height) tiles.old.items tiles.new.items) }
 {
     let rows = geocell_rows(head, height);
     for row in rows.first..rows.end {
@@ -88,7 +88,7 @@ fn push_height(
 /// Pushes the tiles of a family that a source reaches.
 fn push_family(tiles: &mut Vec<Tile>, head: &SourceHead, family: Family) -> Result<(), AllocError>
     requires kind { head.now.kind ≡ kind_of family }
-    ensures { OnOk result (Adds (IsOfFamily head.now family) tiles.old.items tiles.new.items) }
+    ensures { OnOk result (AddsTiles (IsOfFamily head.now family) tiles.old.items tiles.new.items) }
 {
     for height in units::height(head.level)..COARSEST + 1 {
         push_height(tiles, head, family, height)?;
@@ -98,7 +98,7 @@ fn push_family(tiles: &mut Vec<Tile>, head: &SourceHead, family: Family) -> Resu
 
 /// Pushes the tiles that a source reaches.
 fn push_reached(tiles: &mut Vec<Tile>, head: &SourceHead) -> Result<(), AllocError>
-    ensures { OnOk result (Adds (Reaches head.now) tiles.old.items tiles.new.items) }
+    ensures { OnOk result (AddsTiles (Reaches head.now) tiles.old.items tiles.new.items) }
 {
     match head.kind {
         Kind::Elevation => {
@@ -112,7 +112,7 @@ fn push_reached(tiles: &mut Vec<Tile>, head: &SourceHead) -> Result<(), AllocErr
 
 /// Pushes the tiles that each of a list of sources reaches.
 pub(crate) fn push_touched(tiles: &mut Vec<Tile>, heads: &[SourceHead]) -> Result<(), AllocError>
-    ensures { OnOk result (Adds (Reached heads.now) tiles.old.items tiles.new.items) }
+    ensures { OnOk result (AddsTiles (Reached heads.now) tiles.old.items tiles.new.items) }
 {
     for head in heads {
         push_reached(tiles, head)?;

@@ -6,11 +6,11 @@ use Rattle.cdb_grid.specs.Frames.{IsPartChanged, four_under}
 use Rattle.cdb_grid.specs.Tiles.{tile_side}
 use Rattle.cdb_grid.specs.declared.tile.Tile.{Tile}
 use Rattle.cdb_grid.proofs.ChildPlaces.{height-under}
-use Rattle.cdb_cut.specs.OneTile.{Stands, IsFolded, four_rule, nothing, elevations_of}
+use Rattle.cdb_cut.specs.OneTile.{StandsIn, IsFolded, four_rule, no_values, elevations_of}
 use Rattle.cdb_cut.proofs.ChildPlaces.{stands_at}
 use Rattle.cdb_cut.proofs.OneTile as one
 use Rattle.cdb_cut.proofs.OneTileWhole.{start_elevation, extreme_whole, paint_start, own_whole}
-use Rattle.cdb_cut.specs.FinerTiles.{AreChildren, elevation_of}
+use Rattle.cdb_cut.specs.FinerTiles.{AreChildren, elevation_tile}
 use Rattle.cdb_cut.proofs.FinerTiles.{even_side, parents, all_folded}
 use Rattle.cdb_cut.proofs.FrameStarts.{extreme_kind, plain_elevations, elevations_same}
 use Rattle.cdb_check.proofs.MakingLaws.{none_reaches}
@@ -26,7 +26,7 @@ pub fold_child-returns-then-not-reached : goal.fold_child-returns-then-not-reach
 fold_child-returns-then-not-reached t c start done plain before =
     let ss = c.args.sources.now in let child = c.args.child.now in let tile = c.args.tile.now in
     let s = c.spot_of-spot.result in let e = c.spot_of-spot.ensures in
-    let at : Stands child tile s.row s.col =
+    let at : StandsIn child tile s.row s.col =
     stands_at child tile s.row s.col c.requires.parent e.begins e.row_fits e.col_fits in
     one.miss_child ss tile start child s.row s.col at
     (none_reaches ss child (λ r. let yes = c.reached.ensures.1 r in let no = c.if-not-reached.true in cc)) done
@@ -46,7 +46,7 @@ pub fold_child-fold-requires-clause-even : goal.fold_child-fold-requires-clause-
 fold_child-fold-requires-clause-even t c =
     let child = c.args.child.now in let tile = c.args.tile.now in
     let s = c.spot_of-spot.result in let e = c.spot_of-spot.ensures in
-    let at : Stands child tile s.row s.col =
+    let at : StandsIn child tile s.row s.col =
     stands_at child tile s.row s.col c.requires.parent e.begins e.row_fits e.col_fits in
     subst (λ n. n % 2 ≡ 0) (sym c.side-child_side.ensures.value) (even_side child tile s.row s.col at)
 
@@ -54,7 +54,7 @@ pub fold_child-fold-requires-clause-row_fits : goal.fold_child-fold-requires-cla
 fold_child-fold-requires-clause-row_fits t c =
     let child = c.args.child.now in let tile = c.args.tile.now in
     let s = c.spot_of-spot.result in let e = c.spot_of-spot.ensures in
-    let at : Stands child tile s.row s.col =
+    let at : StandsIn child tile s.row s.col =
     stands_at child tile s.row s.col c.requires.parent e.begins e.row_fits e.col_fits in
     subst (λ n. s.row + n / 2 ≤ c.side.result) (sym c.side-child_side.ensures.value)
     (subst (λ m. s.row + tile_side child / 2 ≤ m) (sym c.side.ensures.value) at.row_fits)
@@ -63,7 +63,7 @@ pub fold_child-fold-requires-clause-col_fits : goal.fold_child-fold-requires-cla
 fold_child-fold-requires-clause-col_fits t c =
     let child = c.args.child.now in let tile = c.args.tile.now in
     let s = c.spot_of-spot.result in let e = c.spot_of-spot.ensures in
-    let at : Stands child tile s.row s.col =
+    let at : StandsIn child tile s.row s.col =
     stands_at child tile s.row s.col c.requires.parent e.begins e.row_fits e.col_fits in
     subst (λ n. s.col + n / 2 ≤ c.side.result) (sym c.side-child_side.ensures.value)
     (subst (λ m. s.col + tile_side child / 2 ≤ m) (sym c.side.ensures.value) at.col_fits)
@@ -73,7 +73,7 @@ fold_child-returns t c start done plain before =
     let ss = c.args.sources.now in let child = c.args.child.now in let tile = c.args.tile.now in
     let s = c.spot_of-spot.result in let e = c.spot_of-spot.ensures in
     let made = c.make_tile.new.frame in let old = c.args.frame.now in let new = c.fold.new.frame in
-    let at : Stands child tile s.row s.col =
+    let at : StandsIn child tile s.row s.col =
     stands_at child tile s.row s.col c.requires.parent e.begins e.row_fits e.col_fits in
     one.fold_child ss tile start child s.row s.col at plain made c.make_tile.ensures done old new before
     (subst (λ n. IsPartChanged (four_under (four_rule tile.family) made (tile_side child)) s.row s.col
@@ -136,7 +136,7 @@ make_extreme-returns t c =
     let ss = c.args.sources.now in let tile = c.args.tile.now in let extreme = c.requires.extreme in
     extreme_whole ss tile c.fold_children.new.frame extreme
     (c.fold_children.ensures (elevations_of ss tile) (plain_elevations ss tile extreme)
-    (start_elevation ss tile (elevation_of tile) c.make_elevations.new.frame (extreme_kind tile.family extreme)
+    (start_elevation ss tile (elevation_tile tile) c.make_elevations.new.frame (extreme_kind tile.family extreme)
     (elevations_same tile) c.make_elevations.ensures))
 
 pub make_own-fold_children-requires : goal.make_own-fold_children-requires
@@ -157,4 +157,4 @@ make_own-returns t c =
     let ss = c.args.sources.now in let tile = c.args.tile.now in let own = c.requires.own in
     own_whole ss tile c.paint_sources.new.frame own
     (c.paint_sources.ensures ss (paint_start ss tile c.fold_children.new.frame own
-    (c.fold_children.ensures nothing (λ r q. tt) (c.clear.ensures ss))))
+    (c.fold_children.ensures no_values (λ r q. tt) (c.clear.ensures ss))))

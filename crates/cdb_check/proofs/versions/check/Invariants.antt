@@ -1,7 +1,7 @@
 use Rattle.std.proofs.Common.{◌≡◌, ◌≤◌, ◌*◌, length, take}
 use Rattle.cdb_check.specs.Expected.{expected_files, AllAsExpected, SpellAll}
-use Rattle.cdb_check.specs.Outcome.{Looks}
-use Rattle.cdb_check.specs.Rooms.{IsReady}
+use Rattle.cdb_check.specs.Outcome.{OnlyReads}
+use Rattle.cdb_check.specs.Rooms.{IsRoomy}
 use Rattle.cdb_check.proofs.ExpectedLaws.{all_source_files}
 use Rattle.cdb_check.proofs.versions.check.Given as goal
 
@@ -12,6 +12,6 @@ invariant-loop-k g l = record {
       l.sources.items;
   files : l.files ≡ length (expected_files (take l.k l.chain.records));
   small : l.files ≤ l.k * 16449;
-  ready : IsReady l.room;
-  looks : Looks g.D.Disk.clock g.D.Disk.since g.D.Disk.state g.D.Disk.fault_count l.fn.disk l.disk;
+  ready : IsRoomy l.room;
+  looks : OnlyReads g.D.Disk.clock g.D.Disk.since g.D.Disk.state g.D.Disk.fault_count l.fn.disk l.disk;
 }

@@ -3,7 +3,7 @@ use Rattle.cdb_files.specs.Disk.{State}
 use Rattle.cdb_grid.specs.declared.tile.Tile.{Tile}
 use Rattle.cdb_source.specs.declared.source.Source.{Source}
 use Rattle.cdb_check.specs.Expected.{source_files_of, a_record, a_source, a_tile, AllAsExpected, SpellAll}
-use Rattle.cdb_check.specs.Outcome.{Finds}
+use Rattle.cdb_check.specs.Outcome.{FirstDiffering}
 use Rattle.cdb_check.proofs.ExpectedLaws.{early, onward}
 use Rattle.cdb_check.proofs.versions.check_version.Goals as goal
 
@@ -11,7 +11,7 @@ pub returns-in-Err-check_sources-clause-finds : goal.returns-in-Err-check_source
 returns-in-Err-check_sources-clause-finds g c = λ told earlier spelled.
     let r = c.args.record.now in let s = g.D.Disk.state c.args.disk.now in
     let tiles = map (a_tile (earlier ++ source_files_of r) r.version) r.tiles in
-    let found = subst (λ (z : State). Finds {T = Unit {0}} z.present (map a_source (source_files_of r))
+    let found = subst (λ (z : State). FirstDiffering {T = Unit {0}} z.present (map a_source (source_files_of r))
     (Err c.in-Err-check_sources.error)) c.check_record.ensures.looks.state
     (c.in-Err-check_sources.ensures.finds told) in
     onward {T = Unit {0}} s.present (a_record r ∷ []) (map a_source (source_files_of r) ++ tiles)
@@ -38,9 +38,9 @@ returns-clause-finds g c = λ told earlier spelled.
     subst (λ (ss : List Source). SpellAll (g.D.Disk.state c.check_sources.new.disk).present files ss)
     (sym c.as_slice-2.ensures.value) moved in
     let tiles = c.check_tiles.ensures.finds told files slice in
-    let tiles_of : Finds s.present (map (a_tile files r.version) r.tiles) c.check_tiles.result =
-    subst (λ (ts : List Tile). Finds s.present (map (a_tile files r.version) ts) c.check_tiles.result)
-    c.as_slice.ensures (subst (λ (z : State). Finds z.present
+    let tiles_of : FirstDiffering s.present (map (a_tile files r.version) r.tiles) c.check_tiles.result =
+    subst (λ (ts : List Tile). FirstDiffering s.present (map (a_tile files r.version) ts) c.check_tiles.result)
+    c.as_slice.ensures (subst (λ (z : State). FirstDiffering z.present
     (map (a_tile files r.version) c.as_slice.result.now) c.check_tiles.result) two tiles) in
     onward s.present (a_record r ∷ []) (map a_source (source_files_of r) ++ map (a_tile files r.version) r.tiles)
     c.check_tiles.result (c.in-Ok.ensures.judged told, tt)

@@ -3,7 +3,7 @@ use Rattle.cdb_grid.specs.Tiles.{tile_side}
 use Rattle.cdb_source.specs.Sample.{row_step, corner_of}
 use Rattle.cdb_source.specs.Reached.{kind_of}
 use Rattle.cdb_cut.specs.Window.{LooksAt}
-use Rattle.cdb_cut.specs.Parts.{Runs}
+use Rattle.cdb_cut.specs.Parts.{HasRuns}
 use Rattle.cdb_cut.proofs.WindowLaws.{looked_at, looked_from}
 use Rattle.cdb_cut.proofs.source_rows.window.Goals as goal
 
@@ -14,7 +14,7 @@ returns c =
     let rows = c.rows_in_box-rows.result in let cols = c.columns_in_box-cols.result in
     let side : c.side.result ≡ tile_side t = c.side.ensures.value in
     let side_2 : c.side-2.result ≡ tile_side t = c.side-2.ensures.value in
-    let runs : Runs head t p.north p.east p.up p.right rows.first rows.end cols.first cols.end = record {
+    let runs : HasRuns head t p.north p.east p.up p.right rows.first rows.end cols.first cols.end = record {
       places = c.places_of-places.ensures.each;
       rows = λ k lt. c.rows_in_box-rows.ensures.each k (omega arith);
       cols = λ k lt. c.columns_in_box-cols.ensures.each k (omega arith);

@@ -1,5 +1,5 @@
 use Rattle.std.proofs.Common.{ℕ, None, Some, sym, subst, arith}
-use Rattle.cdb_model.specs.Stores.{kind_of}
+use Rattle.cdb_model.specs.Stores.{store_kind}
 use Rattle.cdb_engine.specs.StoreAnswers.{LeftIn}
 use Rattle.cdb_engine.specs.Stays.{Stays}
 use Rattle.cdb_engine.proofs.StayLaws.{stays_left}
@@ -11,9 +11,9 @@ loop-init g c =
     let D = g.D.Disk in
     record {
       steps = λ w origin s now stays going running some.
-          partly_none (kind_of w) s now c.left-left.result
+          partly_none (store_kind w) s now c.left-left.result
           (Stays D.tells D.clock D.fault_count D.since D.state origin c.args.disk.now c.args.engine.now w)
-          (subst (λ (n : ℕ). LeftIn (kind_of w) s.going n) (sym c.left-left.ensures)
+          (subst (λ (n : ℕ). LeftIn (store_kind w) s.going n) (sym c.left-left.ensures)
           (stays_left D.tells D.clock D.fault_count D.since D.state origin c.args.disk.now c.args.engine.now w s stays))
           going some stays;
       later = omega arith;
@@ -45,6 +45,6 @@ returns-in-Some-clause-finishes g c = λ w origin s now stays going running some
 pub returns-clause-finishes : goal.returns-clause-finishes
 returns-clause-finishes g c = λ w origin s now stays going running some.
     let D = g.D.Disk in
-    absurd (not_all (kind_of w) s now c.left-left.result c.loop.counter
+    absurd (not_all (store_kind w) s now c.left-left.result c.loop.counter
     (Stays D.tells D.clock D.fault_count D.since D.state origin c.loop.disk c.loop.engine w)
     (c.loop.invariant.steps w origin s now stays going running some) c.loop-test.false)

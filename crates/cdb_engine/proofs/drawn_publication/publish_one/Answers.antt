@@ -3,7 +3,7 @@ use Rattle.std.specs.Prelude.{All}
 use Rattle.cdb_grid.specs.declared.tile.Tile.{Tile}
 use Rattle.cdb_source.specs.Reached.{Reached, IsTouched}
 use Rattle.cdb_model.specs.Publications.{sources_of, heads_of}
-use Rattle.cdb_model.specs.Stores.{kind_of}
+use Rattle.cdb_model.specs.Stores.{store_kind}
 use Rattle.cdb_model.proofs.OneLists.{one_touched}
 use Rattle.cdb_generate.specs.Sums.{tiles_sum}
 use Rattle.cdb_engine.specs.Populating.{IsSumAt}
@@ -139,7 +139,7 @@ returns-in-Ok-sum_newest-clause-publishes g c = λ w origin s stays at.
     (subst (λ (ts : List Tile). All (λ u. Reached (heads_of (sources_of t.list)) u) ts)
     (sym c.as_slice-2.ensures.value) reached)
     ∙ ap (tiles_sum (sources_of t.list)) c.as_slice-2.ensures.value) in
-    let list = (kind_of w).add s.list going.planned in
+    let list = (store_kind w).add s.list going.planned in
     all_done w s x at sources drawn Mid going (record { files = c.len.result; sum = to_z w64 (of_z w64 sum) })
     (Stays D.tells D.clock D.fault_count D.since D.state origin c.sum_newest.new.disk c.sum_newest.new.engine w)
     (c.in-Ok-sum_newest.ensures.sums w origin (published w s x at sources drawn Mid going) made

@@ -1,5 +1,5 @@
 use Rattle.std.proofs.Common.{◌≡◌, ◌≤◌, ◌*◌, pos, ◌+ℤ◌, ◌≤ℤ◌, length}
-use Rattle.cdb_model.specs.Stores.{Which, kind_of}
+use Rattle.cdb_model.specs.Stores.{Which, store_kind}
 use Rattle.cdb_model.specs.Transitions.{StateIn}
 use Rattle.cdb_engine.specs.Stays.{Stays}
 use Rattle.cdb_engine.specs.Tracks.{Origin, Leads}
@@ -12,9 +12,9 @@ abbrev pub invariant-loop : goal.invariant-loop
 invariant-loop g l =
     let D = g.D.Disk in
     record {
-      made : (w : Which) (origin : Origin) (s : StateIn (kind_of w))
+      made : (w : Which) (origin : Origin) (s : StateIn (store_kind w))
           → Stays D.tells D.clock D.fault_count D.since D.state origin l.fn.disk l.fn.engine w s
-          → IsAtRest (kind_of w) s
+          → IsAtRest (store_kind w) s
           → Leads (AreMade w s l.fn.start l.counter l.files l.sum)
           (Stays D.tells D.clock D.fault_count D.since D.state origin l.disk l.engine w);
       state : l.state ≡ passed l.counter l.fn.start;

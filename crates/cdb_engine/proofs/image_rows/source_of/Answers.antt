@@ -5,7 +5,7 @@ use mir.Val.{SFits}
 use Rattle.cdb_source.specs.declared.head.SourceHead.{SourceHead}
 use Rattle.cdb_model.specs.Grammar.{Head, file_in}
 use Rattle.cdb_model.specs.Spelled.{SpellsHead}
-use Rattle.cdb_engine.specs.Words.{head_in}
+use Rattle.cdb_engine.specs.Words.{head_of_words}
 use Rattle.cdb_engine.proofs.SpelledLaws.{file_spelled, no_file_row}
 use Rattle.cdb_engine.proofs.image_rows.source_of.Goals as goal
 
@@ -13,9 +13,9 @@ pub returns-in-Ok-push_rows : goal.returns-in-Ok-push_rows
 returns-in-Ok-push_rows c =
     let fits : SFits w32 c.args.order.now.novalue = search rules in
     let fields = c.in-Ok.ensures.opened.fields in
-    let spelled = subst (SpellsHead (head_in c.of_file.result) c.in-Ok.image.length c.in-Ok.image.width) (sym c.in-Ok-new.ensures.head) c.in-Some.ensures in (
+    let spelled = subst (SpellsHead (head_of_words c.of_file.result) c.in-Ok.image.length c.in-Ok.image.width) (sym c.in-Ok-new.ensures.head) c.in-Some.ensures in (
       c.in-Ok.ensures.accepted,
-      file_spelled (file_in c.args.order.now) c.args.bytes.now (head_in c.of_file.result) c.in-Ok.image.length c.in-Ok.image.width c.in-Ok-new.maker.head _ c.push_rows.new.maker c.finish.result
+      file_spelled (file_in c.args.order.now) c.args.bytes.now (head_of_words c.of_file.result) c.in-Ok.image.length c.in-Ok.image.width c.in-Ok-new.maker.head _ c.push_rows.new.maker c.finish.result
           c.of_file.ensures fields.length fields.width (to_z-of_z w32 c.args.order.now.novalue fits) spelled c.in-Ok-push_rows.ensures.ok c.finish.ensures.head c.finish.ensures.posts,
     )
 

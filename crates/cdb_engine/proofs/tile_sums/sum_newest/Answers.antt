@@ -1,8 +1,8 @@
 use Rattle.std.proofs.Common.{rules, ◌≡◌, ◌∙◌, List, w64, to_z, of_z, ap}
 use Rattle.cdb_source.specs.declared.source.Source.{Source}
-use Rattle.cdb_model.specs.KnownStore.{State}
+use Rattle.cdb_model.specs.KnownStore.{KnownState}
 use Rattle.cdb_model.specs.Publications.{sources_of, sources_up_to}
-use Rattle.cdb_model.specs.Stores.{known, kind_of}
+use Rattle.cdb_model.specs.Stores.{known, store_kind}
 use Rattle.cdb_engine.specs.Stays.{Stays}
 use Rattle.cdb_engine.proofs.StayLaws.{stays_shows, stays_alike}
 use Rattle.cdb_generate.specs.Sums.{tiles_sum}
@@ -15,7 +15,7 @@ returns-in-Err-clause-sums g c = λ w origin s stays at.
     let d = c.args.disk.now in
     let led = c.in-Err.ensures.connects w s
     (stays_shows D.tells D.clock D.fault_count D.since D.state origin d c.args.engine.now w s stays) in
-    refused (kind_of w) s c.in-Err.field-0
+    refused (store_kind w) s c.in-Err.field-0
     (Stays D.tells D.clock D.fault_count D.since D.state origin d c.open_session.new.self w) at
     (record {
       next = led.next;
@@ -48,7 +48,7 @@ returns-clause-sums g c = λ w origin s stays at.
     let read = c.in-Ok-sum_tiles.ensures.asks w origin led.next there in
     let end = c.close_session-closed.ensures.disconnects w led.next
     (stays_shows D.tells D.clock D.fault_count D.since D.state origin e c.sum_tiles.new.engine w led.next read) in
-    closed (kind_of w) s led.next c.in-Ok.opened.id c.in-Ok.opened.version at led.step c.close_session-closed.result
+    closed (store_kind w) s led.next c.in-Ok.opened.id c.in-Ok.opened.version at led.step c.close_session-closed.result
     (Stays D.tells D.clock D.fault_count D.since D.state origin e c.close_session-closed.new.self w)
     (record {
       next = end.next;
@@ -70,7 +70,7 @@ returns-clause-sum g c = λ origin s stays at reached.
     let sum = c.in-Ok-sum_tiles.ensures.sum origin led.next version there
     (open_at_newest s led.next c.in-Ok.opened.id version tiles at led.step reached) in
     let noise : to_z w64 (of_z w64 c.in-Ok-sum_tiles.sum) ≡ c.in-Ok-sum_tiles.sum = search rules in
-    let list : led.next.list ≡ s.list = ap (λ (n : State). n.list) led.step.next in
+    let list : led.next.list ≡ s.list = ap (λ (n : KnownState). n.list) led.step.next in
     let ss : sources_up_to version led.next.list ≡ sources_of s.list =
     ap (sources_up_to version) list ∙ all_sources s.list version led.step.version_is in
     noise ∙ sum ∙ ap (λ (all : List Source). tiles_sum all tiles) ss

@@ -1,7 +1,7 @@
 use Rattle.std.proofs.Common.{◌≡◌, ◌≤◌, ◌*◌, ℕ, pos, ◌+ℤ◌, ◌≤ℤ◌, take, length}
-use Rattle.cdb_model.specs.KnownStore.{State}
+use Rattle.cdb_model.specs.KnownStore.{KnownState}
 use Rattle.cdb_model.specs.Publications.{sources_up_to}
-use Rattle.cdb_model.specs.Stores.{Which, known, kind_of}
+use Rattle.cdb_model.specs.Stores.{Which, known, store_kind}
 use Rattle.cdb_model.specs.Transitions.{StateIn}
 use Rattle.cdb_engine.specs.Stays.{Stays}
 use Rattle.cdb_engine.specs.Tracks.{Origin}
@@ -13,10 +13,10 @@ abbrev pub invariant-loop-tile : goal.invariant-loop-tile
 invariant-loop-tile g l =
     let D = g.D.Disk in
     record {
-      stays : (w : Which) (origin : Origin) (s : StateIn (kind_of w))
+      stays : (w : Which) (origin : Origin) (s : StateIn (store_kind w))
           → Stays D.tells D.clock D.fault_count D.since D.state origin l.fn.disk l.fn.engine w s
           → Stays D.tells D.clock D.fault_count D.since D.state origin l.disk l.engine w s;
-      sum : (origin : Origin) (s : State) (version : ℕ)
+      sum : (origin : Origin) (s : KnownState) (version : ℕ)
           → Stays D.tells D.clock D.fault_count D.since D.state origin l.fn.disk l.fn.engine known s
           → IsOpenAt s l.id version l.tiles
           → l.sum ≡ tiles_sum (sources_up_to version s.list) (take l.tile-index l.tiles);

@@ -8,15 +8,15 @@ returns-in-Err-clause-checks g c =
     checks_unopened g.D.Disk.tells g.D.Disk.state g.D.Disk.clock g.D.Disk.since
     c.args.disk.now (g.met.D.Disk.only_now c.args.disk.now) c.open.new.disk c.open.ensures.moments
     (g.O.Output.written c.args.output.now)
-    (g.O.Output.written c.end.new.output) c.in-Err.error c.unopened.result c.end.result c.unopened.ensures.status
+    (g.O.Output.written c.end.new.output) c.in-Err.error c.open_status.result c.end.result c.open_status.ensures.status
     c.in-Err.ensures.store c.end.ensures.ends
 
 pub returns-in-Err-clause-store : goal.returns-in-Err-clause-store
 returns-in-Err-clause-store g c =
-    says_store g.D.Disk.tells (g.D.Disk.state c.args.disk.now).present c.unopened.result c.end.result
+    says_store g.D.Disk.tells (g.D.Disk.state c.args.disk.now).present c.open_status.result c.end.result
     c.end.ensures.same
-    (unopened_says Unit g.D.Disk.tells (g.D.Disk.state c.args.disk.now).present c.in-Err.error c.unopened.result
-    c.unopened.ensures.status c.in-Err.ensures.no_store)
+    (unopened_says Unit g.D.Disk.tells (g.D.Disk.state c.args.disk.now).present c.in-Err.error c.open_status.result
+    c.open_status.ensures.status c.in-Err.ensures.no_store)
 
 pub returns-in-Ok-say_agreed-clause-checks : goal.returns-in-Ok-say_agreed-clause-checks
 returns-in-Ok-say_agreed-clause-checks g c =
@@ -44,7 +44,7 @@ returns-clause-checks g c =
     (g.O.Output.written c.args.output.now)
     (g.O.Output.written c.end-in-Err-check.new.output) c.in-Ok.engine c.check.new.disk
     g.D.Disk.fault_count c.in-Ok.ensures.read c.in-Ok.ensures.begins c.check.ensures.looks
-    c.in-Err-check.error c.unagreed.result c.end-in-Err-check.result c.unagreed.ensures.status
+    c.in-Err-check.error c.check_status.result c.end-in-Err-check.result c.check_status.ensures.status
     c.in-Err-check.ensures.finds c.in-Err-check.ensures.agrees c.end-in-Err-check.ensures.ends
 
 pub returns-in-Ok-say_agreed-clause-store : goal.returns-in-Ok-say_agreed-clause-store
@@ -54,8 +54,8 @@ returns-in-Ok-say_agreed-clause-store g c =
 
 pub returns-clause-store : goal.returns-clause-store
 returns-clause-store g c =
-    says_store g.D.Disk.tells (g.D.Disk.state c.args.disk.now).present c.unagreed.result c.end-in-Err-check.result
+    says_store g.D.Disk.tells (g.D.Disk.state c.args.disk.now).present c.check_status.result c.end-in-Err-check.result
     c.end-in-Err-check.ensures.same
     (opened_says g.D.Disk.tells (g.D.Disk.state c.args.disk.now).present (g.D.Disk.state c.open.new.disk).present
-    c.in-Ok.engine.chain.records c.unagreed.result c.in-Ok.ensures.read
-    (checked_is_one c.in-Err-check.error c.unagreed.result c.unagreed.ensures.status))
+    c.in-Ok.engine.chain.records c.check_status.result c.in-Ok.ensures.read
+    (checked_is_one c.in-Err-check.error c.check_status.result c.check_status.ensures.status))

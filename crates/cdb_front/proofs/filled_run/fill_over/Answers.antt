@@ -14,15 +14,15 @@ pub returns-in-Err-clause-fills : goal.returns-in-Err-clause-fills
 returns-in-Err-clause-fills g c =
     fills_unopened g.D.Disk.tells g.D.Disk.state g.D.Disk.clock g.D.Disk.since c.args.disk.now
     (g.met.D.Disk.only_now c.args.disk.now) c.args.start c.args.count (g.O.Output.written c.args.output.now)
-    (g.O.Output.written c.end.new.output) c.open.new.disk c.open.ensures.moments c.in-Err.error c.unopened.result
-    c.end.result c.unopened.ensures.status c.in-Err.ensures.store c.end.ensures.ends
+    (g.O.Output.written c.end.new.output) c.open.new.disk c.open.ensures.moments c.in-Err.error c.open_status.result
+    c.end.result c.open_status.ensures.status c.in-Err.ensures.store c.end.ensures.ends
 
 pub returns-in-Err-clause-store : goal.returns-in-Err-clause-store
 returns-in-Err-clause-store g c =
-    says_store g.D.Disk.tells (g.D.Disk.state c.args.disk.now).present c.unopened.result c.end.result
+    says_store g.D.Disk.tells (g.D.Disk.state c.args.disk.now).present c.open_status.result c.end.result
     c.end.ensures.same
-    (unopened_says Unit g.D.Disk.tells (g.D.Disk.state c.args.disk.now).present c.in-Err.error c.unopened.result
-    c.unopened.ensures.status c.in-Err.ensures.no_store)
+    (unopened_says Unit g.D.Disk.tells (g.D.Disk.state c.args.disk.now).present c.in-Err.error c.open_status.result
+    c.open_status.ensures.status c.in-Err.ensures.no_store)
 
 pub returns-in-Ok-say_made-clause-fills : goal.returns-in-Ok-say_made-clause-fills
 returns-in-Ok-say_made-clause-fills g c =
@@ -52,8 +52,8 @@ returns-clause-fills g c =
     record { pending = fresh.pending; going = fresh.going; halted = fresh.halted; sessions = fresh.sessions } in
     fills_stopped g.D.Disk.tells g.D.Disk.state g.D.Disk.clock g.D.Disk.since c.args.disk.now
     (g.met.D.Disk.only_now c.args.disk.now) c.args.start c.args.count (g.O.Output.written c.args.output.now)
-    (g.O.Output.written c.end-in-Err-populate.new.output) c.populate.new.disk c.in-Err-populate.error c.unmade.result
-    c.end-in-Err-populate.result c.unmade.ensures.status (g.D.Disk.state c.open.new.disk).present
+    (g.O.Output.written c.end-in-Err-populate.new.output) c.populate.new.disk c.in-Err-populate.error c.fill_status.result
+    c.end-in-Err-populate.result c.fill_status.ensures.status (g.D.Disk.state c.open.new.disk).present
     c.in-Ok.engine.chain.records c.in-Ok.ensures.read (bare_of c.in-Ok.engine) refl
     last.next last.step
     (λ base has. let l = c.in-Err-populate.ensures.follows known (origin_of base) (start_at base.list)
@@ -79,8 +79,8 @@ returns-in-Ok-say_made-clause-store g c =
 
 pub returns-clause-store : goal.returns-clause-store
 returns-clause-store g c =
-    says_store g.D.Disk.tells (g.D.Disk.state c.args.disk.now).present c.unmade.result c.end-in-Err-populate.result
+    says_store g.D.Disk.tells (g.D.Disk.state c.args.disk.now).present c.fill_status.result c.end-in-Err-populate.result
     c.end-in-Err-populate.ensures.same
     (opened_says g.D.Disk.tells (g.D.Disk.state c.args.disk.now).present (g.D.Disk.state c.open.new.disk).present
-    c.in-Ok.engine.chain.records c.unmade.result c.in-Ok.ensures.read
-    (stopped_is_one c.in-Err-populate.error c.unmade.result c.unmade.ensures.status))
+    c.in-Ok.engine.chain.records c.fill_status.result c.in-Ok.ensures.read
+    (stopped_is_one c.in-Err-populate.error c.fill_status.result c.fill_status.ensures.status))

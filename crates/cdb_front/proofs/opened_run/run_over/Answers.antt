@@ -1,9 +1,9 @@
 use Rattle.std.proofs.Common.{None, refl}
 use Rattle.cdb_model.specs.Images.{Base}
-use Rattle.cdb_model.specs.KnownStore.{State}
+use Rattle.cdb_model.specs.KnownStore.{KnownState}
 use Rattle.cdb_model.specs.Stores.{known}
 use Rattle.cdb_front.specs.EngineStays.{StaysWith}
-use Rattle.cdb_front.specs.RunProgress.{Entry, Holds, base_of}
+use Rattle.cdb_front.specs.RunProgress.{RunStart, Holds, base_of}
 use Rattle.cdb_front.proofs.Exits.{ended, opens, told_begins, told_shut, closed, outcome, Shut}
 use Rattle.cdb_front.proofs.InTime.{in_time, quits}
 use Rattle.cdb_front.proofs.RunEnds.{stops_closed, says_store, opened_says, opened_is_one, reads_whole, unopened_of_store, unopened_says}
@@ -12,7 +12,7 @@ use Rattle.cdb_front.proofs.opened_run.run_over.Goals as goal
 
 pub returns-in-Ok-clause-outcome : goal.returns-in-Ok-clause-outcome
 returns-in-Ok-clause-outcome g c = λ from knows.
-    let e : Entry = record {
+    let e : RunStart = record {
       files = g.H.Shelf.files c.args.shelf.now;
       shelf = g.H.Shelf.fault_count c.args.shelf.now;
       disk = g.D.Disk.fault_count c.args.disk.now;
@@ -30,14 +30,14 @@ returns-in-Ok-clause-outcome g c = λ from knows.
     (λ items answers wrote runs. ended (Holds g.H.Shelf.tells e.files) g.D.Disk.tells from c.run_script-status.result
     items answers wrote (g.D.Disk.clock c.args.disk.now)
     (g.D.Disk.since c.run_script-status.new.disk) (g.D.Disk.state c.args.disk.now)
-    (g.D.Disk.state c.run_script-status.new.disk) (λ (base : Base) (s : State). Last base known s)
+    (g.D.Disk.state c.run_script-status.new.disk) (λ (base : Base) (s : KnownState). Last base known s)
     (λ base s stays. stays_followed g.D.Disk.tells g.D.Disk.clock g.D.Disk.fault_count g.D.Disk.since g.D.Disk.state
     base c.run_script-status.new.disk c.run_script-status.new.engine s stays)
     c.run_script-status.ensures.opened knows runs)
     (c.run_script-status.ensures.stops e refl refl
     (told_begins e (g.D.Disk.fault_count c.open.new.disk) (First (base_of from)) c.open.ensures.later
     (opens g.D.Disk.tells (g.D.Disk.clock c.args.disk.now) (g.D.Disk.state c.args.disk.now) from
-    (λ (base : Base) (s : State). First base known s) knows
+    (λ (base : Base) (s : KnownState). First base known s) knows
     (λ base has. stays_opened g.D.Disk.tells g.D.Disk.clock g.D.Disk.fault_count g.D.Disk.since g.D.Disk.state base
     c.args.disk.now c.open.new.disk c.in-Ok.engine has
     (c.in-Ok.ensures.begins has.told base.list base.early has.store)
@@ -48,7 +48,7 @@ returns-in-Ok-clause-outcome g c = λ from knows.
 
 pub returns-in-Err-clause-outcome : goal.returns-in-Err-clause-outcome
 returns-in-Err-clause-outcome g c = λ from knows.
-    let e : Entry = record {
+    let e : RunStart = record {
       files = g.H.Shelf.files c.args.shelf.now;
       shelf = g.H.Shelf.fault_count c.args.shelf.now;
       disk = g.D.Disk.fault_count c.args.disk.now;
@@ -56,18 +56,18 @@ returns-in-Err-clause-outcome g c = λ from knows.
       from = from;
       most = c.args.most;
     } in
-    outcome c.unopened.result c.end-in-Err.result (g.D.Disk.since c.open.new.disk (g.D.Disk.clock c.args.disk.now))
+    outcome c.open_status.result c.end-in-Err.result (g.D.Disk.since c.open.new.disk (g.D.Disk.clock c.args.disk.now))
     (g.D.Disk.state c.open.new.disk)
     (λ items answers wrote runs. closed g.D.Disk.tells (Holds g.H.Shelf.tells e.files) g.D.Disk.clock g.D.Disk.since
-    g.D.Disk.state c.args.disk.now c.open.new.disk from c.unopened.result items answers wrote
-    c.unopened.ensures.closed
-    (λ told list early store. unopened_of_store c.in-Err.error c.unopened.result c.unopened.ensures.status
+    g.D.Disk.state c.args.disk.now c.open.new.disk from c.open_status.result items answers wrote
+    c.open_status.ensures.closed
+    (λ told list early store. unopened_of_store c.in-Err.error c.open_status.result c.open_status.ensures.status
     (c.in-Err.ensures.store told list early store)) knows c.open.ensures.moments
     (g.met.D.Disk.only_now c.args.disk.now)
     (λ m later image. g.met.D.Disk.counts_now c.open.new.disk (g.D.Disk.clock c.args.disk.now) m later image) runs)
-    (stops_closed c.unopened.result (g.I.Input.left c.args.input.now) (g.O.Output.written c.args.output.now)
+    (stops_closed c.open_status.result (g.I.Input.left c.args.input.now) (g.O.Output.written c.args.output.now)
     (g.H.Shelf.fault_count c.args.shelf.now) (g.D.Disk.fault_count c.open.new.disk) (Shut from)
-    c.unopened.ensures.closed
+    c.open_status.ensures.closed
     (told_shut e (g.D.Disk.fault_count c.open.new.disk) c.open.ensures.later))
     c.end-in-Err.ensures.ends
 
@@ -98,7 +98,7 @@ returns-in-Ok-clause-store g c =
 
 pub returns-in-Err-clause-store : goal.returns-in-Err-clause-store
 returns-in-Err-clause-store g c =
-    says_store g.D.Disk.tells (g.D.Disk.state c.args.disk.now).present c.unopened.result c.end-in-Err.result
+    says_store g.D.Disk.tells (g.D.Disk.state c.args.disk.now).present c.open_status.result c.end-in-Err.result
     c.end-in-Err.ensures.same
-    (unopened_says Unit g.D.Disk.tells (g.D.Disk.state c.args.disk.now).present c.in-Err.error c.unopened.result
-    c.unopened.ensures.status c.in-Err.ensures.no_store)
+    (unopened_says Unit g.D.Disk.tells (g.D.Disk.state c.args.disk.now).present c.in-Err.error c.open_status.result
+    c.open_status.ensures.status c.in-Err.ensures.no_store)

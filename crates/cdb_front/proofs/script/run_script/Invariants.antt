@@ -1,11 +1,11 @@
 use Rattle.std.proofs.Common.{◌≡◌, ◌≤◌, ◌-◌, []}
-use Rattle.cdb_front.specs.RunProgress.{Entry, base_of, Told}
+use Rattle.cdb_front.specs.RunProgress.{RunStart, base_of, Told}
 use Rattle.cdb_front.specs.RunReading.{Reading}
 use Rattle.cdb_front.proofs.script.run_script.Given as goal
 
 abbrev pub invariant-loop-taken : goal.invariant-loop-taken
 invariant-loop-taken g l = record {
-  reading : (e : Entry) → g.H.Shelf.files l.fn.shelf ≡ e.files → e.most ≡ l.most
+  reading : (e : RunStart) → g.H.Shelf.files l.fn.shelf ≡ e.files → e.most ≡ l.most
       → Told g.H.Shelf.tells e [] (g.O.Output.written l.fn.output) (g.H.Shelf.fault_count l.fn.shelf)
       (g.D.Disk.fault_count l.fn.disk) (g.E.StoreCalls.stays l.fn.engine l.fn.disk (base_of e.from))
       → Reading g.H.Shelf.tells e (g.I.Input.left l.fn.input) (g.I.Input.left l.input) (g.O.Output.written l.output)

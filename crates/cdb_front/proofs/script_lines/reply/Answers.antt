@@ -1,6 +1,6 @@
 use Rattle.std.proofs.Common.{ℕ, List, subst}
 use Rattle.std.specs.Io.KnownBytes.{Appends}
-use Rattle.cdb_model.specs.AnswerTexts.{text_of}
+use Rattle.cdb_model.specs.AnswerTexts.{text_of_answer}
 use Rattle.cdb_front.specs.Devices.{WritesPart}
 use Rattle.cdb_front.proofs.RunProgress.{speaks_line, stammers_line}
 use Rattle.cdb_front.specs.AnswerMeanings.{meant}
@@ -16,7 +16,7 @@ returns-in-Ok-clause-spoken g c = λ e command says same.
     same (λ w s stays. c.answer-answer.ensures.turn w (base_of e.from) s command says stays)
     c.answer-answer.ensures.shelf_counted c.answer-answer.ensures.disk_counted
     (subst (λ (r : List ℕ). Appends (g.O.Output.written c.args.output.now) (g.O.Output.written c.say.new.output)
-    (text_of (meant c.answer-answer.result r))) c.reply.ensures c.in-Ok.ensures.ok)
+    (text_of_answer (meant c.answer-answer.result r))) c.reply.ensures c.in-Ok.ensures.ok)
 
 pub returns-in-Err-clause-spoken : goal.returns-in-Err-clause-spoken
 returns-in-Err-clause-spoken g c = λ e command says same.
@@ -27,4 +27,4 @@ returns-in-Err-clause-spoken g c = λ e command says same.
     same (λ w s stays. c.answer-answer.ensures.turn w (base_of e.from) s command says stays)
     c.answer-answer.ensures.shelf_counted c.answer-answer.ensures.disk_counted
     (subst (λ (r : List ℕ). WritesPart (g.O.Output.written c.args.output.now) (g.O.Output.written c.say.new.output)
-    (text_of (meant c.answer-answer.result r))) c.reply.ensures c.in-Err.ensures.err)
+    (text_of_answer (meant c.answer-answer.result r))) c.reply.ensures c.in-Err.ensures.err)

@@ -1,6 +1,6 @@
 use Rattle.std.proofs.Common.{ℕ, List, [], ◌∷◌, sym, subst, append-nil}
 use Rattle.std.specs.Io.KnownBytes.{Appends}
-use Rattle.cdb_model.specs.AnswerTexts.{text_of}
+use Rattle.cdb_model.specs.AnswerTexts.{text_of_answer}
 use Rattle.cdb_front.specs.Devices.{WritesPart}
 use Rattle.std.proofs.KnownBytes.{Appends-nil}
 use Rattle.cdb_front.proofs.RunProgress.{speaks_late, stammers_late}
@@ -28,9 +28,9 @@ returns-in-Ok-clause-spoken g c = λ e.
     (c.in-Some.ensures.said reply) (λ w s stays. c.make_steps.ensures.makes w (base_of e.from) s stays)
     c.make_steps.ensures.quiet c.make_steps.ensures.counted
     (subst (Appends (g.O.Output.written c.args.output.now) (g.O.Output.written c.say.new.output))
-    (sym (append-nil (text_of (meant c.in-Some.answer reply))))
+    (sym (append-nil (text_of_answer (meant c.in-Some.answer reply))))
     (subst (λ (r : List ℕ). Appends (g.O.Output.written c.args.output.now) (g.O.Output.written c.say.new.output)
-    (text_of (meant c.in-Some.answer r))) c.reply.ensures c.in-Ok.ensures.ok))
+    (text_of_answer (meant c.in-Some.answer r))) c.reply.ensures c.in-Ok.ensures.ok))
 
 pub returns-in-Err-clause-spoken : goal.returns-in-Err-clause-spoken
 returns-in-Err-clause-spoken g c = λ e.
@@ -42,4 +42,4 @@ returns-in-Err-clause-spoken g c = λ e.
     (c.in-Some.ensures.said reply) (λ w s stays. c.make_steps.ensures.makes w (base_of e.from) s stays)
     c.make_steps.ensures.quiet c.make_steps.ensures.counted
     (subst (λ (r : List ℕ). WritesPart (g.O.Output.written c.args.output.now) (g.O.Output.written c.say.new.output)
-    (text_of (meant c.in-Some.answer r))) c.reply.ensures c.in-Err.ensures.err)
+    (text_of_answer (meant c.in-Some.answer r))) c.reply.ensures c.in-Err.ensures.err)

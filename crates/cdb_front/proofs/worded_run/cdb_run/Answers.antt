@@ -1,5 +1,5 @@
 use Rattle.std.proofs.Common.{◌≤◌, inl, inr, refl, arith}
-use Rattle.cdb_front.specs.RunProgress.{Entry, Holds}
+use Rattle.cdb_front.specs.RunProgress.{RunStart, Holds}
 use Rattle.cdb_front.specs.declared.exit_status.Status.TheVariants.{Memory}
 use Rattle.cdb_front.proofs.Checking.{checks_nothing}
 use Rattle.cdb_front.proofs.Exits.{unopened, told_shut, outcome, Shut}
@@ -9,7 +9,7 @@ use Rattle.cdb_front.proofs.worded_run.cdb_run.Goals as goal
 
 pub returns-in-Err-Memory-clause-outcome : goal.returns-in-Err-Memory-clause-outcome
 returns-in-Err-Memory-clause-outcome g c = λ options is mode from knows.
-    let e : Entry = record {
+    let e : RunStart = record {
       files = g.H.Shelf.files c.args.shelf.now;
       shelf = g.H.Shelf.fault_count c.args.shelf.now;
       disk = g.D.Disk.fault_count c.args.disk.now;

@@ -1,5 +1,5 @@
 use Rattle.std.proofs.Common.{◌<◌, length}
-use Rattle.cdb_manifest.specs.Decoding.{Tells}
+use Rattle.cdb_manifest.specs.Decoding.{RecordCause}
 use Rattle.cdb_manifest.proofs.FieldLaws.{not_empty}
 use Rattle.cdb_manifest.proofs.DecodingLaws.{told_head, told_entry, to_entries, left_over, handed_on}
 use Rattle.cdb_manifest.proofs.decoding.record_of.Goals as goal
@@ -9,7 +9,7 @@ returns-in_err-heads-clause-bad c =
     let bytes = c.args.bytes.now in
     let n = c.in_ok-numbers.numbers in
     let told = told_head bytes c.in_ok-numbers.rest.now n.version n.sources n.tiles c.in_ok-numbers.ensures.form c.in_ok-numbers.ensures.read c.in_err-heads.field-0.0 c.in_err-heads.ensures.bad in
-    handed_on c.from_residual-in_err-heads.result (Tells bytes) c.in_err-heads.field-0.0 told c.from_residual-in_err-heads.ensures.1
+    handed_on c.from_residual-in_err-heads.result (RecordCause bytes) c.in_err-heads.field-0.0 told c.from_residual-in_err-heads.ensures.1
 
 pub returns-in_err-tiles-clause-bad : goal.returns-in_err-tiles-clause-bad
 returns-in_err-tiles-clause-bad c =
@@ -19,7 +19,7 @@ returns-in_err-tiles-clause-bad c =
     let count = c.in_ok-heads.ensures.count in
     let begins = to_entries bytes c.in_ok-numbers.rest.now c.in_ok-heads.rest.now n.version n.sources n.tiles heads c.in_ok-numbers.ensures.read c.in_ok-heads.ensures.read count in
     let told = told_entry bytes c.in_ok-heads.rest.now n.version n.sources n.tiles heads c.in_ok-numbers.ensures.form begins count c.in_err-tiles.field-0.0 c.in_err-tiles.ensures.bad in
-    handed_on c.from_residual-in_err-tiles.result (Tells bytes) c.in_err-tiles.field-0.0 told c.from_residual-in_err-tiles.ensures.1
+    handed_on c.from_residual-in_err-tiles.result (RecordCause bytes) c.in_err-tiles.field-0.0 told c.from_residual-in_err-tiles.ensures.1
 
 pub returns-then-not-is_empty-clause-bad : goal.returns-then-not-is_empty-clause-bad
 returns-then-not-is_empty-clause-bad c =

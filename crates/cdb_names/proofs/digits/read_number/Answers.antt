@@ -1,7 +1,7 @@
 use Rattle.std.proofs.Common.{◌≡◌, ℕ, length, take, drop, true, subst, sym, ap, ◌∙◌, arith}
 use Rattle.std.specs.Str.{all_ascii_digits}
 use Rattle.cdb_model.specs.Names.{Text}
-use Rattle.cdb_names.specs.Fields.{number_of}
+use Rattle.cdb_names.specs.Fields.{bounded_number}
 use Rattle.cdb_names.proofs.NumberLaws.{all_front, near_value}
 use Rattle.cdb_names.proofs.digits.read_number.Goals as goal
 
@@ -15,5 +15,5 @@ returns-clause-near c small =
     let front = c.split_at.ensures.front ∙ ap (λ (k : ℕ). take k c.args.text.now) c.digits_at.ensures.count in
     let back = c.split_at.ensures.back ∙ ap (λ (k : ℕ). drop k c.args.text.now) c.digits_at.ensures.count in
     let read = sym c.number.ensures ∙ c.in_ok-number.was in
-    let near = near_value c.args.limit c.args.text.now c.in_ok-number.field-0 small (ap (number_of c.args.limit) (sym front) ∙ read) in
+    let near = near_value c.args.limit c.args.text.now c.in_ok-number.field-0 small (ap (bounded_number c.args.limit) (sym front) ∙ read) in
     omega (arith, near, ap length back)

@@ -1,7 +1,7 @@
 use Rattle.std.proofs.Common.{◌≡◌, ◌<◌, ◌+◌, ◌∙◌, sym, ap, map, take, get_or, length, refl, rules, arith}
 use Rattle.cdb_model.specs.Maps.{folder_above}
 use Rattle.cdb_crash.specs.Plan.{each_once}
-use Rattle.cdb_publish.specs.Planning.{source_paths, paths_in, once_more}
+use Rattle.cdb_publish.specs.Planning.{source_paths_from, paths_in, once_more}
 use Rattle.cdb_publish.proofs.FolderLists.{one_source_more, one_tile_more, take_more}
 use Rattle.cdb_publish.proofs.folders.list_folders.Goals as goal
 
@@ -10,7 +10,7 @@ loop-k-preserved c =
     let v = c.args.item.now.version in let k = c.loop-k.k in
     record {
       folders = c.in_ok-push_once.ensures.ok ∙ ap (λ t. once_more t c.folder_above.result.bytes) c.loop-k.invariant.folders
-          ∙ ap (λ f. once_more (each_once (map folder_above (source_paths v 1 k))) f) (c.folder_above.ensures ∙ ap folder_above c.source_path.ensures)
+          ∙ ap (λ f. once_more (each_once (map folder_above (source_paths_from v 1 k))) f) (c.folder_above.ensures ∙ ap folder_above c.source_path.ensures)
           ∙ sym (one_source_more v k);
       few = omega (arith, c.push_once.ensures.few, c.loop-k.invariant.few);
     }

@@ -1,7 +1,7 @@
 use Rattle.std.proofs.Common.{◌≡◌, ℕ, ◌/◌, ◌%◌, Option, sym, subst}
 use Rattle.cdb_grid.specs.Tiles.{tile_side}
 use Rattle.cdb_grid.specs.Frames.{IsPartChanged, four_under}
-use Rattle.cdb_cut.specs.OneTile.{Stands, four_rule}
+use Rattle.cdb_cut.specs.OneTile.{StandsIn, four_rule}
 use Rattle.cdb_cut.proofs.ChildPlaces.{stands_at}
 use Rattle.cdb_cut.proofs.OneTile.{fold_child, miss_child}
 use Rattle.cdb_publish.specs.LookUps.{IsNamed, IsReadFrame}
@@ -11,13 +11,13 @@ use Rattle.cdb_publish.proofs.folding.fold_child.Goals as goal
 pub fold-requires-clause-even : goal.fold-requires-clause-even
 fold-requires-clause-even g c =
     let child = c.args.child.now in let t = c.args.tile.now in let s = c.spot_of-spot.result in
-    let at : Stands child t s.row s.col = stands_at child t s.row s.col c.requires.parent c.spot_of-spot.ensures.begins c.spot_of-spot.ensures.row_fits c.spot_of-spot.ensures.col_fits in
+    let at : StandsIn child t s.row s.col = stands_at child t s.row s.col c.requires.parent c.spot_of-spot.ensures.begins c.spot_of-spot.ensures.row_fits c.spot_of-spot.ensures.col_fits in
     subst (λ n. n % 2 ≡ 0) (sym c.side-child_side.ensures.value) (even_side child t s.row s.col at)
 
 pub returns-in-Ok-true-clause-folded : goal.returns-in-Ok-true-clause-folded
 returns-in-Ok-true-clause-folded g c told ss start done named plain before =
     let child = c.args.child.now in let t = c.args.tile.now in let s = c.spot_of-spot.result in let m = (g.D.Disk.state c.args.disk.now).present in
-    let at : Stands child t s.row s.col = stands_at child t s.row s.col c.requires.parent c.spot_of-spot.ensures.begins c.spot_of-spot.ensures.row_fits c.spot_of-spot.ensures.col_fits in
+    let at : StandsIn child t s.row s.col = stands_at child t s.row s.col c.requires.parent c.spot_of-spot.ensures.begins c.spot_of-spot.ensures.row_fits c.spot_of-spot.ensures.col_fits in
     let N : Option ℕ → Type 0 = IsNamed m ss child in
     fold_child ss t start child s.row s.col at plain c.read_named.new.frame
     (subst (IsReadFrame ss child c.read_named.new.frame) c.in-Ok-true.field-0-test (c.in-Ok-true.ensures.frame told ss (subst N (sym c.look-version.ensures.named) named)))
@@ -28,7 +28,7 @@ returns-in-Ok-true-clause-folded g c told ss start done named plain before =
 pub returns-in-Ok-false-clause-folded : goal.returns-in-Ok-false-clause-folded
 returns-in-Ok-false-clause-folded g c told ss start done named plain before =
     let child = c.args.child.now in let t = c.args.tile.now in let s = c.spot_of-spot.result in let m = (g.D.Disk.state c.args.disk.now).present in
-    let at : Stands child t s.row s.col = stands_at child t s.row s.col c.requires.parent c.spot_of-spot.ensures.begins c.spot_of-spot.ensures.row_fits c.spot_of-spot.ensures.col_fits in
+    let at : StandsIn child t s.row s.col = stands_at child t s.row s.col c.requires.parent c.spot_of-spot.ensures.begins c.spot_of-spot.ensures.row_fits c.spot_of-spot.ensures.col_fits in
     let N : Option ℕ → Type 0 = IsNamed m ss child in
     miss_child ss t start child s.row s.col at
     (subst (IsReadFrame ss child c.read_named.new.frame) c.in-Ok-false.field-0-test (c.in-Ok-false.ensures.frame told ss (subst N (sym c.look-version.ensures.named) named)))

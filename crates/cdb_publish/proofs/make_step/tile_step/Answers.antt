@@ -4,7 +4,7 @@ use Rattle.cdb_model.specs.Publications.{sources_of}
 use Rattle.cdb_model.specs.Names.{path}
 use Rattle.cdb_model.specs.TileFile.{tile_bytes}
 use Rattle.cdb_files.specs.Whole.{after_write}
-use Rattle.cdb_crash.specs.Plan.{Step}
+use Rattle.cdb_crash.specs.Plan.{FileAction}
 use Rattle.cdb_publish.specs.Reads.{StepNeeds}
 use Rattle.cdb_publish.specs.declared.errors.StepError.TheVariants.{Fault}
 use Rattle.cdb_publish.proofs.StepRuns.{wrote_ok, wrote_err, idle_err, only_read, unwritten}
@@ -20,7 +20,7 @@ returns-in-Err-clause-made g c told P x plans records mid =
     let p = c.args.plan.now in let t = c.index-as_slice-number.result in
     let at : slice_get p.record.tiles c.args.number ≡ Some t = got p.record.tiles c.args.number t c.requires.number (search rules) in
     idle_err g.D.Disk.clock g.D.Disk.since g.D.Disk.state _ _ (Err c.in-Err.error) refl
-    (Step.write (record { path = path p.record.version t; bytes = tile_bytes (sources_of (P ++ x ∷ [])) t }))
+    (FileAction.write (record { path = path p.record.version t; bytes = tile_bytes (sources_of (P ++ x ∷ [])) t }))
     (plan_tile p P x plans c.args.number t (path p.record.version t) (tile_bytes (sources_of (P ++ x ∷ [])) t) at refl refl)
     c.args.disk.now c.make_tile.new.disk (only_read g.D.Disk.clock g.D.Disk.since g.D.Disk.state c.args.disk.now c.make_tile.new.disk c.make_tile.ensures.time)
 

@@ -1,6 +1,6 @@
 use Rattle.std.proofs.Common.{ℕ, ◌++◌, ◌∙◌, length-append, sym, subst, arith}
 use Rattle.cdb_files.specs.Disk.{State}
-use Rattle.cdb_cut.specs.OneTile.{nothing}
+use Rattle.cdb_cut.specs.OneTile.{no_values}
 use Rattle.cdb_cut.proofs.OneTileWhole.{paint_start}
 use Rattle.cdb_publish.specs.LookUps.{child_needs, needs_of, look_before, IsNamed}
 use Rattle.cdb_publish.specs.Needs.{AreSized, TellsError}
@@ -54,7 +54,7 @@ returns-in-Ok-fill_older-clause-values g c told ss x h =
     c.in-Ok-fill_older.ensures.filled told ss x c.requires.own (subst N (sym (c.paint_sources.ensures.state ∙ c.fold_children.ensures.state)) h.older)
     (c.in-Ok-paint_sources.ensures.painted told (ss ++ x) x h.heads (subst S (sym c.fold_children.ensures.state) h.sources)
     (paint_start (ss ++ x) t c.fold_children.new.frame c.requires.own
-    (c.in-Ok.ensures.folded told (ss ++ x) nothing h.children_named (λ r q. tt) (c.clear.ensures (ss ++ x)))))
+    (c.in-Ok.ensures.folded told (ss ++ x) no_values h.children_named (λ r q. tt) (c.clear.ensures (ss ++ x)))))
 
 pub returns-in-Err-clause-reads : goal.returns-in-Err-clause-reads
 returns-in-Err-clause-reads g c =

@@ -4,7 +4,7 @@ use Rattle.cdb_model.specs.Stands.{AtMost, Stands}
 use Rattle.cdb_files.specs.Disk.{State}
 use Rattle.cdb_crash.specs.Crash.{IsClean}
 use Rattle.cdb_crash.proofs.Own as own
-use Rattle.cdb_recover.specs.Clearing.{IsLeft, RemovesUnder}
+use Rattle.cdb_recover.specs.Clearing.{IsLeftUnder, RemovesUnder}
 use Rattle.cdb_recover.proofs.Removals.{removal-at, one_more, not_more, not_under, one_left}
 use Rattle.cdb_recover.proofs.Rounds.{Sofar, Counted, begins, reads, stands, goes, none_counted, one_counted}
 use Rattle.cdb_recover.proofs.clearing.clear.Goals as goal
@@ -101,7 +101,7 @@ returns-in-Some-2-clause-few g c told most =
     let clock = g.D.Disk.clock in let since = g.D.Disk.since in let state = g.D.Disk.state in
     let s = state c.rounds.disk in let folder = c.args.folder.now.bytes in let path = c.in-Some-2.field-0.bytes in
     let first : IsFirstUnder s.present folder path = rw c.in-Some-2.is at (c.in_ok-first_under-2.ensures.first told) in
-    let A : ℕ → Type 0 = λ n. AtMost n (IsLeft folder s.present) in
+    let A : ℕ → Type 0 = λ n. AtMost n (IsLeftUnder folder s.present) in
     let zero : 65536 - c.rounds.counter ≡ 0 = omega (arith, c.rounds-test.false) in
     one_left folder path s.present (first.under, first.there)
     (subst A zero ((c.rounds.invariant.counted told).fewer 65536 most))

@@ -79,4 +79,4 @@ returns t c =
     (south_east_at (h - 1) c.args.north c.args.east c.width.result c.step-2.result c.width.ensures.value c.step-2.ensures.value)
     (north_west_at (h - 1) c.args.north c.args.east c.step.result c.step.ensures.value)
     (north_east_at (h - 1) c.args.north c.args.east c.step.result c.width.result c.step-2.result c.step.ensures.value c.width.ensures.value c.step-2.ensures.value)
-    c.summary_of-south_west.ensures c.summary_of-south_east.ensures c.summary_of-north_west.ensures c.summary_of-north_east.ensures c.own-own.ensures c.combined.ensures
+    c.summary_of-south_west.ensures c.summary_of-south_east.ensures c.summary_of-north_west.ensures c.summary_of-north_east.ensures c.own-own.ensures c.combine.ensures

@@ -1,6 +1,6 @@
 use Rattle.std.proofs.Common.{rules, arith, ◌≡◌, [], ◌∷◌, take, refl, sym, ◌∙◌}
 use Rattle.std.proofs.lemmas.List.{take_all}
-use Rattle.cdb_source.specs.Texts.{first_bytes, kind_and_level, count_bytes, arc_bytes, head_text}
+use Rattle.cdb_source.specs.Texts.{source_first_bytes, kind_and_level, count_bytes, arc_bytes, head_text}
 use Rattle.cdb_source.proofs.TextLaws.{then_part}
 use Rattle.cdb_source.proofs.encoding.encode_head.Goals as goal
 
@@ -15,7 +15,7 @@ returns c =
     let e5 : c.to_be_bytes-4.result ≡ arc_bytes head.lon.units = search rules in
     let e6 : c.to_be_bytes-5.result ≡ arc_bytes head.dlat.units = search rules in
     let e7 : c.to_be_bytes-6.result ≡ arc_bytes head.dlon.units = search rules in
-    let s1 : take 8 c.put.new.to ≡ first_bytes = c.put.ensures in
+    let s1 : take 8 c.put.new.to ≡ source_first_bytes = c.put.ensures in
     let s2 = then_part 8 12 c.put-2.new.to c.put.new.to _ _ _ e1 refl c.put-2.ensures s1 in
     let s3 = then_part 12 16 c.put-3.new.to c.put-2.new.to _ _ _ e2 refl c.put-3.ensures s2 in
     let s4 = then_part 16 20 c.put-4.new.to c.put-3.new.to _ _ _ e3 refl c.put-4.ensures s3 in

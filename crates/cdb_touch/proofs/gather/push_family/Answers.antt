@@ -2,7 +2,7 @@ use Rattle.std.proofs.Common.{◌≡◌, ℕ, ◌+◌, ◌≤◌, sym, subst, ar
 use Rattle.cdb_source.specs.Reached.{source_height}
 use Rattle.cdb_touch.specs.Reach.{IsOfHeight, IsOfFamily}
 use Rattle.cdb_touch.proofs.Below.{IsBelowHeight}
-use Rattle.cdb_touch.specs.Touched.{Adds}
+use Rattle.cdb_touch.specs.Touched.{AddsTiles}
 use Rattle.cdb_touch.proofs.AddLaws.{Adds-none, Adds-then, Adds-iff}
 use Rattle.cdb_touch.proofs.LoadLaws.{height_none, one_height_split, all_heights_same}
 use Rattle.cdb_touch.proofs.gather.push_family.Goals as goal
@@ -12,7 +12,7 @@ loop-height-init c =
     let e : c.height-height.result ≡ source_height c.args.head.now = c.height-height.ensures.value in
     record {
       finer = omega arith;
-      adds = subst (λ k. Adds (IsBelowHeight c.args.head.now c.args.family k) c.args.tiles.now.items c.args.tiles.now.items) (sym e)
+      adds = subst (λ k. AddsTiles (IsBelowHeight c.args.head.now c.args.family k) c.args.tiles.now.items c.args.tiles.now.items) (sym e)
           (Adds-none (IsBelowHeight c.args.head.now c.args.family (source_height c.args.head.now)) c.args.tiles.now.items (height_none c.args.head.now c.args.family));
     }
 

@@ -2,7 +2,7 @@ use Rattle.std.proofs.Common.{◌≡◌, ℕ, ◌+◌, ◌≤◌, ◌++◌, ◌�
 use Rattle.cdb_grid.specs.declared.tile.Tile.{Tile}
 use Rattle.cdb_touch.specs.declared.axis.Run.{Run}
 use Rattle.cdb_touch.specs.Numbers.{IsInRow}
-use Rattle.cdb_touch.specs.Touched.{Adds}
+use Rattle.cdb_touch.specs.Touched.{AddsTiles}
 use Rattle.cdb_touch.proofs.AddLaws.{Adds-none, Adds-one, Adds-then, Adds-iff, one_column_more, no_column, all_columns}
 use Rattle.cdb_touch.proofs.gather.push_row.Goals as goal
 
@@ -24,7 +24,7 @@ loop-column-preserved c =
       adds = Adds-then (IsInRow c.args.family c.args.height c.args.row (record run { end = x })) (λ u. t ≡ u)
           (IsInRow c.args.family c.args.height c.args.row (record run { end = x + 1 }))
           c.args.tiles.now.items c.loop-column.tiles.items c.push.new.self.items c.loop-column.invariant.adds
-          (subst (λ ys. Adds (λ u. t ≡ u) c.loop-column.tiles.items ys) (sym pushed) (Adds-one c.loop-column.tiles.items t))
+          (subst (λ ys. AddsTiles (λ u. t ≡ u) c.loop-column.tiles.items ys) (sym pushed) (Adds-one c.loop-column.tiles.items t))
           (λ u. one_column_more c.args.family c.args.height c.args.row x run t u c.tile_at.ensures from);
       most = let a = c.loop-column-test.true in omega arith;
     }

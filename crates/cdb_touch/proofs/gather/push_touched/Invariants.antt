@@ -1,7 +1,7 @@
 use Rattle.std.proofs.Common.{take}
 use Rattle.cdb_source.specs.Reached.{Reached}
-use Rattle.cdb_touch.specs.Touched.{Adds}
+use Rattle.cdb_touch.specs.Touched.{AddsTiles}
 use Rattle.cdb_touch.proofs.gather.push_touched.Given as goal
 
 abbrev pub invariant-loop-head : goal.invariant-loop-head
-invariant-loop-head l = Adds (Reached (take l.head-index l.heads)) l.initial.tiles.items l.tiles.items
+invariant-loop-head l = AddsTiles (Reached (take l.head-index l.heads)) l.initial.tiles.items l.tiles.items

@@ -1,7 +1,7 @@
 use Rattle.std.proofs.Common.{◌∷◌, sym, subst}
 use Rattle.cdb_model.specs.Images.{StandsForOne}
 use Rattle.cdb_engine.specs.contracts.engine.Engine.{the_row}
-use Rattle.cdb_engine.specs.Store.{IsFound}
+use Rattle.cdb_engine.specs.Store.{IsStoreFound}
 use Rattle.cdb_engine.proofs.OpenTracks.{store_stands, recovers, recover_moments, adds_rests, opened_tracks, opens_found, chain_refuses, recovery_found}
 use Rattle.cdb_engine.proofs.engine.Engine.open.Goals as goal
 
@@ -11,7 +11,7 @@ returns-in-Err-clause-moments g c = λ told list early store.
 
 pub returns-in-Err-clause-store : goal.returns-in-Err-clause-store
 returns-in-Err-clause-store g c = λ told list early store.
-    subst IsFound (sym c.unrecovered.ensures)
+    subst IsStoreFound (sym c.recovery_error.ensures)
     (recovery_found c.in-Err.error (c.in-Err.ensures.store told list (store_stands (g.D.Disk.state c.args.disk.now) list early (g.met.D.Disk.present_possible c.args.disk.now told) store)))
 
 pub returns-in-Err-open-clause-moments : goal.returns-in-Err-open-clause-moments

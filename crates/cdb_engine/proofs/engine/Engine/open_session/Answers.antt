@@ -1,6 +1,6 @@
 use Rattle.std.proofs.Common.{Result, sym, subst}
-use Rattle.cdb_model.specs.Stores.{kind_of}
-use Rattle.cdb_model.specs.Transitions.{ConnectsIn}
+use Rattle.cdb_model.specs.Stores.{store_kind}
+use Rattle.cdb_model.specs.Transitions.{OpenLineIn}
 use Rattle.cdb_sessions.specs.declared.errors.SessionError.{SessionError}
 use Rattle.cdb_engine.specs.Held.{Held, held_of}
 use Rattle.cdb_engine.specs.StoreAnswers.{session_answer}
@@ -16,8 +16,8 @@ returns-clause-connects c = λ w s shows.
     let old : Held = held_of c.self.inside.chain c.self.inside.work c.self.inside.pending.items c.self.inside.sessions c.self.inside.halted in
     let new : Held = held_of c.self.inside.chain c.self.inside.work c.self.inside.pending.items c.open.new.self c.self.inside.halted in
     let shown : Shows old w s = subst (λ (h : Held). Shows h w s) (sym c.self.view_is) shows in
-    let Goal : Result Opened SessionError → Type 0 = λ r. Leads (ConnectsIn (kind_of w) s (session_answer r)) (ChangesAlike old new w s) in
-    subst (λ (h : Held). Leads (ConnectsIn (kind_of w) s (session_answer c.match-open.result)) (ChangesAlike h new w s)) c.self.view_is
+    let Goal : Result Opened SessionError → Type 0 = λ r. Leads (OpenLineIn (store_kind w) s (session_answer r)) (ChangesAlike old new w s) in
+    subst (λ (h : Held). Leads (OpenLineIn (store_kind w) s (session_answer c.match-open.result)) (ChangesAlike h new w s)) c.self.view_is
     (elim c.match-open.branch [
       | in-Ok v ↦ subst Goal (sym v.result-is)
           (connects_ok c.self.inside.chain c.self.inside.work c.self.inside.pending.items c.self.inside.halted c.self.inside.sessions c.open.new.self c.open.ensures.still w s shown c.newest-version.result v.in-Ok.id c.newest-version.ensures.value v.in-Ok.ensures.opened)

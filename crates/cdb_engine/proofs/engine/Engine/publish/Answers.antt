@@ -3,15 +3,15 @@ use Rattle.cdb_source.specs.declared.source.Source.{Source}
 use Rattle.cdb_source.specs.Reached.{IsLoad}
 use Rattle.cdb_model.specs.Events as machine
 use Rattle.cdb_model.specs.Stands.{Stands}
-use Rattle.cdb_model.specs.Stores.{kind_of}
-use Rattle.cdb_model.specs.Transitions.{BeginsIn}
+use Rattle.cdb_model.specs.Stores.{store_kind}
+use Rattle.cdb_model.specs.Transitions.{PublishLineIn}
 use Rattle.cdb_engine.specs.Held.{Held, held_of}
 use Rattle.cdb_model.specs.Publications.{Publication, heads_of}
 use Rattle.cdb_crash.specs.Crash.{IsClean}
 use Rattle.cdb_chain.specs.Publications.{AreRecords}
 use Rattle.cdb_chain.specs.Versions.{Versions}
 use Rattle.cdb_publish.specs.Going.{Underway, IsBegun}
-use Rattle.cdb_publish.specs.Planning.{Refuses, IsAccepted}
+use Rattle.cdb_publish.specs.Planning.{RefusesPlan, IsAccepted}
 use Rattle.cdb_publish.specs.declared.publication.Publication as publish
 use Rattle.cdb_engine.specs.StoreAnswers.{publish_refusal, refusal_of}
 use Rattle.cdb_engine.specs.declared.errors.PublishError.{PublishError}
@@ -60,9 +60,9 @@ returns-in-Ok-clause-begins g c = λ w origin s stays.
     (c.make_room.ensures.room accepted.0.load (subst (λ (y : List Source). IsLoad (heads_of y) accepted.0.load) (sym c.as_slice.ensures.value) accepted.0.load_is) accepted.0.fits) in
     let led = begins_then g.D.Disk.tells g.D.Disk.clock g.D.Disk.fault_count g.D.Disk.since g.D.Disk.state c.args.disk.now ready q running none some underway accepted begun c.in-Ok.ensures.version room c.replace-sources.new.dest.items rest w origin s there in
     let new : Held = held_of chain (Some q) c.replace-sources.new.dest.items c.self.inside.sessions c.self.inside.halted in
-    subst (λ (d : g.row.D.Denot). Leads (BeginsIn (kind_of w) s (machine.begun c.version.result c.files.result)) (Stays g.D.Disk.tells g.D.Disk.clock g.D.Disk.fault_count g.D.Disk.since g.D.Disk.state origin d new w)) (sym c.plan.ensures.disk)
-    (subst (λ (v : ℕ). Leads (BeginsIn (kind_of w) s (machine.begun v c.files.result)) (Stays g.D.Disk.tells g.D.Disk.clock g.D.Disk.fault_count g.D.Disk.since g.D.Disk.state origin c.args.disk.now new w)) (sym c.version.ensures)
-    (subst (λ (f : ℕ). Leads (BeginsIn (kind_of w) s (machine.begun q.version f)) (Stays g.D.Disk.tells g.D.Disk.clock g.D.Disk.fault_count g.D.Disk.since g.D.Disk.state origin c.args.disk.now new w)) (sym c.files.ensures) led))
+    subst (λ (d : g.row.D.Denot). Leads (PublishLineIn (store_kind w) s (machine.begun c.version.result c.files.result)) (Stays g.D.Disk.tells g.D.Disk.clock g.D.Disk.fault_count g.D.Disk.since g.D.Disk.state origin d new w)) (sym c.plan.ensures.disk)
+    (subst (λ (v : ℕ). Leads (PublishLineIn (store_kind w) s (machine.begun v c.files.result)) (Stays g.D.Disk.tells g.D.Disk.clock g.D.Disk.fault_count g.D.Disk.since g.D.Disk.state origin c.args.disk.now new w)) (sym c.version.ensures)
+    (subst (λ (f : ℕ). Leads (PublishLineIn (store_kind w) s (machine.begun q.version f)) (Stays g.D.Disk.tells g.D.Disk.clock g.D.Disk.fault_count g.D.Disk.since g.D.Disk.state origin c.args.disk.now new w)) (sym c.files.ensures) led))
 
 pub returns-in-Err-plan-clause-begins : goal.returns-in-Err-plan-clause-begins
 returns-in-Err-plan-clause-begins g c = λ w origin s stays.
@@ -73,8 +73,8 @@ returns-in-Err-plan-clause-begins g c = λ w origin s stays.
     let some : held.pending ≢ [] = subst (λ (h : Held). h.pending ≢ []) (sym c.self.view_is) c.in_default.ensures.some in
     let same : c.replace-sources.result.items ≡ c.self.inside.pending.items = ap (λ v. v.items) c.replace-sources.ensures.value in
     let back : c.in-Err-plan.refused.sources.items ≡ held.pending = c.in-Err-plan.ensures.back ∙ same in
-    let refuses = subst (λ (y : List Source). Refuses c.make_room.new.chain.records (heads_of y) c.in-Err-plan.refused.error) same c.in-Err-plan.ensures.refused in
+    let refuses = subst (λ (y : List Source). RefusesPlan c.make_room.new.chain.records (heads_of y) c.in-Err-plan.refused.error) same c.in-Err-plan.ensures.refused in
     let led = refused_then g.D.Disk.tells g.D.Disk.clock g.D.Disk.fault_count g.D.Disk.since g.D.Disk.state origin c.args.disk.now held c.make_room.new.chain running none some c.make_room.ensures.records c.in-Err-plan.refused.sources.items c.in-Err-plan.refused.error back refuses w s here in
     let new : Held = held_of c.make_room.new.chain c.self.inside.work c.in-Err-plan.refused.sources.items c.self.inside.sessions c.self.inside.halted in
-    subst (λ (e : PublishError). Leads (BeginsIn (kind_of w) s (publish_refusal e)) (Stays g.D.Disk.tells g.D.Disk.clock g.D.Disk.fault_count g.D.Disk.since g.D.Disk.state origin c.plan.new.disk new w)) (sym c.from.ensures)
-    (subst (λ (d : g.row.D.Denot). Leads (BeginsIn (kind_of w) s (publish_refusal (refusal_of c.in-Err-plan.refused.error))) (Stays g.D.Disk.tells g.D.Disk.clock g.D.Disk.fault_count g.D.Disk.since g.D.Disk.state origin d new w)) (sym c.plan.ensures.disk) led)
+    subst (λ (e : PublishError). Leads (PublishLineIn (store_kind w) s (publish_refusal e)) (Stays g.D.Disk.tells g.D.Disk.clock g.D.Disk.fault_count g.D.Disk.since g.D.Disk.state origin c.plan.new.disk new w)) (sym c.from.ensures)
+    (subst (λ (d : g.row.D.Denot). Leads (PublishLineIn (store_kind w) s (publish_refusal (refusal_of c.in-Err-plan.refused.error))) (Stays g.D.Disk.tells g.D.Disk.clock g.D.Disk.fault_count g.D.Disk.since g.D.Disk.state origin d new w)) (sym c.plan.ensures.disk) led)

@@ -1,5 +1,5 @@
 use Rattle.std.proofs.Common.{sym, subst}
-use Rattle.cdb_sessions.specs.Sessions.{IsServed, AreCurrent, ServesCurrent}
+use Rattle.cdb_sessions.specs.Sessions.{TileOutcome, AreCurrent, ServesCurrent}
 use Rattle.cdb_engine.specs.Held.{Held, held_of, sessions_part}
 use Rattle.cdb_engine.specs.Stays.{Stays}
 use Rattle.cdb_engine.proofs.TileTracks.{asks_then}
@@ -14,7 +14,7 @@ returns-clause-asks g c = λ w origin s stays.
 
 pub returns-clause-served : goal.returns-clause-served
 returns-clause-served g c =
-    subst (λ (h : Held). IsServed g.D.Disk.tells (g.D.Disk.state c.args.disk.now).present c.args.disk.now c.tile.new.disk h.chain c.args.id c.args.tile.now (sessions_part h) c.tile.new.self c.tile.result)
+    subst (λ (h : Held). TileOutcome g.D.Disk.tells (g.D.Disk.state c.args.disk.now).present c.args.disk.now c.tile.new.disk h.chain c.args.id c.args.tile.now (sessions_part h) c.tile.new.self c.tile.result)
     c.self.view_is c.tile.ensures.served
 
 pub returns-clause-current : goal.returns-clause-current

@@ -1,6 +1,6 @@
 use Rattle.std.proofs.Common.{not, true, sym, ap, ◌∙◌, subst}
 use Rattle.std.specs.List.{position}
-use Rattle.cdb_pool.specs.Frames.{Frames, AllOut, IsFirstFree, IsReady, with_out}
+use Rattle.cdb_pool.specs.Frames.{Frames, AllOut, IsFirstFree, IsLent, with_out}
 use Rattle.cdb_pool.proofs.OutLaws.{is_ready}
 use Rattle.cdb_pool.proofs.FreeFrames.{free_at, none_before, none_free}
 use Rattle.cdb_pool.proofs.pool.Pool.take.Goals as goal
@@ -22,4 +22,4 @@ returns-clause-ready g c =
     let p : Frames g.row.T.Denot = record { items = c.self.inside.block.items; frame_length = c.self.inside.frame_length; out = c.self.inside.taken.items } in
     let k = c.in-Some.number in
     let first : IsFirstFree p k = (free_at c.self.inside.taken.items k some, none_before c.self.inside.taken.items k some) in
-    subst (λ n. IsReady (with_out p k true) k n) (ap (λ (s : Frames g.row.T.Denot). s.frame_length) c.self.view_is) (is_ready p k c.self.invariant first)
+    subst (λ n. IsLent (with_out p k true) k n) (ap (λ (s : Frames g.row.T.Denot). s.frame_length) c.self.view_is) (is_ready p k c.self.invariant first)

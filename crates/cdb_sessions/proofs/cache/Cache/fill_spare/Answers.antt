@@ -1,7 +1,7 @@
 use Rattle.std.proofs.Common.{◌≡◌, take, length, sym, ap, ◌∙◌, subst}
 use Rattle.std.specs.Result.{IfOk}
 use Rattle.cdb_pool.specs.Frames.{contents, written}
-use Rattle.cdb_sessions.specs.Cache.{Cache, kept_in, IsFileRead}
+use Rattle.cdb_sessions.specs.Cache.{Cache, kept_files, IsFileRead}
 use Rattle.cdb_sessions.proofs.CacheLaws.{spared}
 use Rattle.cdb_sessions.proofs.cache.Cache.fill_spare.Goals as goal
 
@@ -13,7 +13,7 @@ returns-clause-kept g c =
     let long : length c.read_into.new.frame ≡ c.self.inside.pool.frame_length = c.read_into.auto.frame
     ∙ c.get_mut-into.ensures.len in
     let a = s.after c.read_into.new.frame long in
-    ap (λ k. kept_in (written c.self.inside.pool k c.read_into.new.frame) c.self.inside.slots.entries) n ∙ a.1
+    ap (λ k. kept_files (written c.self.inside.pool k c.read_into.new.frame) c.self.inside.slots.entries) n ∙ a.1
     ∙ ap (λ (x : Cache). x.kept) c.self.view_is
 
 pub returns-clause-read : goal.returns-clause-read

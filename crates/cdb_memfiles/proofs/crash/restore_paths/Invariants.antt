@@ -2,7 +2,7 @@ use Rattle.std.proofs.Common.{◌≡◌, btree_map_len}
 use Rattle.cdb_memfiles.specs.Crash.{IsPicked, IsSettled}
 use Rattle.cdb_memfiles.specs.History.{replay}
 use Rattle.cdb_memfiles.specs.Standing.{shown, picked_shown}
-use Rattle.cdb_memfiles.proofs.crash.restored.Given as goal
+use Rattle.cdb_memfiles.proofs.crash.restore_paths.Given as goal
 
 abbrev pub invariant-paths : goal.invariant-paths
 invariant-paths l = record {

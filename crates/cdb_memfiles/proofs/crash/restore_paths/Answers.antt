@@ -5,7 +5,7 @@ use Rattle.cdb_memfiles.specs.History.{replay}
 use Rattle.cdb_memfiles.specs.Standing.{Shown, shown, shown_by, picked_shown}
 use Rattle.cdb_memfiles.proofs.CrashLaws.{picked-step, picked-end, nil_from}
 use Rattle.cdb_memfiles.proofs.StandingLaws.{shown-update, shown-found, shown-empty}
-use Rattle.cdb_memfiles.proofs.crash.restored.Goals as goal
+use Rattle.cdb_memfiles.proofs.crash.restore_paths.Goals as goal
 
 pub paths-preserved : goal.paths-preserved
 paths-preserved c =

@@ -1,5 +1,5 @@
 use Rattle.cdb_cut.proofs.MeanLaws.{sum_is}
-use Rattle.cdb_cut.proofs.average.added.Goals as goal
+use Rattle.cdb_cut.proofs.average.add_post.Goals as goal
 
 pub returns-in-Some-Some : goal.returns-in-Some-Some
 returns-in-Some-Some c =
