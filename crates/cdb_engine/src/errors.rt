@@ -18,28 +18,36 @@ pub enum ReadyError {
 }
 
 /// Why no source was made of an order with posts.
-#[derive(Clone, Copy, Debug, PartialEq, Eq)]
+#[derive(Clone, Copy, Debug, PartialEq, Eq, Error)]
 pub enum InlineError {
     /// Memory was refused.
+    #[error("memory was refused")]
     Memory,
     /// The order spells no source.
+    #[error("the order spells no source")]
     Range,
 }
 
 /// Why no source was made of an order with a file.
-#[derive(Clone, Copy, Debug, PartialEq, Eq)]
+#[derive(Clone, Copy, Debug, PartialEq, Eq, Error)]
 pub enum LoadError {
     /// Memory was refused.
+    #[error("memory was refused")]
     Memory,
     /// A call of the shelf failed.
+    #[error("a call of the shelf failed")]
     Shelf,
     /// There is no such file.
+    #[error("there is no such file")]
     Absent,
     /// The file has `size` bytes, more than 67,108,864.
+    #[error("the file has {size} bytes, more than 67,108,864")]
     Big { size: u64 },
     /// The file isn't a TIFF file that is read.
+    #[error("the file isn't read: {0}")]
     Input(TiffError),
     /// The order spells no source with this file.
+    #[error("the order spells no source with this file")]
     Range,
 }
 

@@ -9,13 +9,16 @@ use crate::loads::load;
 use cdb_grid::Tile;
 use cdb_source::SourceHead;
 use std::alloc::Global;
+use thiserror::Error;
 
 /// Why a publication has no list of touched tiles.
-#[derive(Clone, Copy, Debug, PartialEq, Eq)]
+#[derive(Clone, Copy, Debug, PartialEq, Eq, Error)]
 pub enum TouchError {
     /// Memory ran out.
+    #[error("memory was refused")]
     Memory,
     /// The load of the sources, `count`, is above 16,384.
+    #[error("the load is {count}, above 16,384")]
     Large { count: u128 },
 }
 
