@@ -16,7 +16,8 @@ use Rattle.cdb_grid.specs.OrderLaws.{tile_cmp-total}
 use Rattle.cdb_grid.specs.declared.tile.Tile.{Tile}
 use Rattle.cdb_grid.proofs.TileOrder.{self_equal, tile_self, same_by_order}
 use Rattle.cdb_chain.specs.declared.place.Place.{Place}
-use Rattle.cdb_chain.specs.Versions.{place, place_cmp, IsLast, IsPlaced}
+use Rattle.cdb_chain.specs.Versions.{place, place_cmp, IsLast}
+use Rattle.cdb_chain.specs.inside.Versions.{IsPlaced}
 
 pub place_total : IsTotalOrder place_cmp
 place_total =

@@ -2,3 +2,4 @@ pub mod LookUps
 pub mod Opening
 pub mod Publications
 pub mod Versions
+pub mod inside

@@ -1,7 +1,6 @@
 -- What opening makes of the records of a store.
 use Rattle.std.specs.Prelude.{◌≡◌, ◌≢◌, ℕ, ◌+◌, ◌≤◌, ◌<◌, ◌⊎◌, List, length, slice_get, Some, None, Result}
 use Rattle.std.specs.Prelude.{Ok, Err}
-use Rattle.std.specs.declared.vec.Vec.{Vec}
 use Rattle.cdb_model.specs.Maps.{Content, FileMap}
 use Rattle.cdb_model.specs.Names.{record_path}
 use Rattle.cdb_manifest.specs.Decoding.{FirstBadField}
@@ -26,41 +25,10 @@ AreUnfit bytes version place = FirstBadField bytes place ⊎ IsOtherVersion byte
 abbrev pub IsTooLong : List ℕ → ℕ → Type 0
 IsTooLong bytes place = (264980 < length bytes) × (place ≡ 264980)
 
--- there is no file, or it is too long
-abbrev pub HasNoSize : Content → ℕ → Type 0
-HasNoSize None place = place ≡ 0
-HasNoSize (Some bytes) place = IsTooLong bytes place
-
 -- there is no file, or its bytes aren't those of the version's record
 abbrev pub IsBadRecord : Content → ℕ → ℕ → Type 0
 IsBadRecord None version place = place ≡ 0
 IsBadRecord (Some bytes) version place = IsTooLong bytes place ⊎ ((length bytes ≤ 264980) × AreUnfit bytes version place)
-
--- a bad record, of this version, where the disk tells
-abbrev pub RefusesBytes : Type 0 → (ℕ → Type 0) → ℕ → ℕ → ℕ → Type 0
-RefusesBytes Tells Bad version told place = (told ≡ version) × (Tells → Bad place)
-
--- the bytes of a file
-abbrev pub AreBytes : {Z : Type 0} → Type 0 → Content → ℕ → Result (Vec ℕ Z) OpenError → Type 0
-AreBytes Tells content version (Ok bytes) = (length bytes.items ≤ 264980) × (Tells → content ≡ Some bytes.items)
-AreBytes Tells content version (Err (NotAStore told place)) = RefusesBytes Tells (HasNoSize content) version told place
-AreBytes Tells content version (Err Memory) = Unit {0}
-AreBytes Tells content version (Err Fault) = Unit {0}
-
--- the record of bytes
-abbrev pub IsItem : List ℕ → ℕ → Result Record OpenError → Type 0
-IsItem bytes version (Ok item) = (item.version ≡ version) × (bytes ≡ record_bytes item)
-IsItem bytes version (Err (NotAStore told place)) = (told ≡ version) × AreUnfit bytes version place
-IsItem bytes version (Err Memory) = Unit {0}
-IsItem bytes version (Err Fault) = ⊥
-
--- the record of a version
-abbrev pub IsRecordOf : Type 0 → Content → ℕ → Result Record OpenError → Type 0
-IsRecordOf Tells content version (Ok item) = (item.version ≡ version) × (Tells → content ≡ Some (record_bytes item))
-IsRecordOf Tells content version (Err (NotAStore told place)) =
-    RefusesBytes Tells (IsBadRecord content version) version told place
-IsRecordOf Tells content version (Err Memory) = Unit {0}
-IsRecordOf Tells content version (Err Fault) = Unit {0}
 
 -- each record is that of its version, and stands there where the disk tells
 pub record AreRead (Tells : Type 0) (present : FileMap) (records : List Record) : Type 0 where

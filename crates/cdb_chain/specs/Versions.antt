@@ -64,7 +64,3 @@ pub record IsLast (index : List Place) (version : ℕ) (tile : Tile) (found : �
   pub up_to : found ≤ version
   pub there : Contains index (place tile found)
   pub greatest : (other : ℕ) → other ≤ version → Contains index (place tile other) → other ≤ found
-
-abbrev pub IsPlaced : List Place → ℕ → Tile → Option ℕ → Type 0
-IsPlaced index version tile None = (other : ℕ) → other ≤ version → Contains index (place tile other) → ⊥
-IsPlaced index version tile (Some found) = IsLast index version tile found

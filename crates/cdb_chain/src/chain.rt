@@ -7,7 +7,8 @@ ghost use Rattle.cdb_source.specs.declared.source.Source as given;
 ghost use Rattle.cdb_model.specs.Publications.{heads_of};
 ghost use Rattle.cdb_manifest.specs.declared.record_.Record as manifest;
 ghost use Rattle.cdb_chain.specs.Publications.{AreRecords};
-ghost use Rattle.cdb_chain.specs.Versions.{place_cmp, places_of, IsPlaced, IsFound};
+ghost use Rattle.cdb_chain.specs.Versions.{place_cmp, places_of, IsFound};
+ghost use Rattle.cdb_chain.specs.inside.Versions.{IsPlaced};
 
 use crate::place::Place;
 use cdb_grid::Tile;

@@ -6,7 +6,8 @@ ghost use Rattle.cdb_source.specs.declared.source.Source as given;
 ghost use Rattle.cdb_model.specs.Stands.{Stands};
 ghost use Rattle.cdb_chain.specs.Versions.{places_of};
 ghost use Rattle.cdb_chain.specs.Publications.{OpensTo};
-ghost use Rattle.cdb_chain.specs.Opening.{AreBytes, IsItem, IsRecordOf, IsOpenedFrom};
+ghost use Rattle.cdb_chain.specs.Opening.{IsOpenedFrom};
+ghost use Rattle.cdb_chain.specs.inside.Opening.{AreBytes, IsItem, IsRecordOf};
 
 use crate::chain::{Chain, push_places};
 use crate::open_error::OpenError;

@@ -7,7 +7,8 @@ use Rattle.cdb_source.specs.declared.source.Source.{Source}
 use Rattle.cdb_model.specs.Maps.{Text, FileMap}
 use Rattle.cdb_manifest.specs.declared.record_.Record.{Record}
 use Rattle.cdb_check.specs.Expected.{SourceFile, Expected, path_of, source_files_from, source_files_of, Spells, SpellAll, IsAsExpected, AllAsExpected, FirstOther}
-use Rattle.cdb_check.specs.Outcome.{Judges, FirstDiffering}
+use Rattle.cdb_check.specs.Outcome.{FirstDiffering}
+use Rattle.cdb_check.specs.inside.Outcome.{Judges}
 use Rattle.cdb_check.specs.declared.outcome.CheckError.{CheckError}
 use Rattle.cdb_check.specs.declared.outcome.CheckError.TheVariants.{Memory, Fault, Differs}
 

@@ -10,8 +10,10 @@ use Rattle.cdb_model.specs.Maps.{FileMap}
 use Rattle.cdb_model.specs.Names.{source_path, path}
 use Rattle.cdb_files.specs.Disk.{State}
 use Rattle.cdb_manifest.specs.declared.record_.Record.{Record}
-use Rattle.cdb_check.specs.Expected.{SourceFile, Expected, source_file, source_files_from, source_files_of, a_source, a_tile, expected_of, expected_after, expected_files, Spells, SpellAll, IsAsExpected, AllAsExpected}
-use Rattle.cdb_check.specs.Outcome.{Judges, FirstDiffering, GivesFile, IsAt, OnlyReads}
+use Rattle.cdb_check.specs.Expected.{SourceFile, Expected, source_files_from, source_files_of, a_source, a_tile, expected_of, expected_after, expected_files, Spells, SpellAll, IsAsExpected, AllAsExpected}
+use Rattle.cdb_check.specs.inside.Expected.{source_file}
+use Rattle.cdb_check.specs.Outcome.{FirstDiffering, OnlyReads}
+use Rattle.cdb_check.specs.inside.Outcome.{Judges, GivesFile, IsAt}
 use Rattle.cdb_check.specs.declared.outcome.CheckError.{CheckError}
 use Rattle.cdb_check.specs.declared.outcome.CheckError.TheVariants.{Memory, Fault, Differs}
 use Rattle.cdb_files.specs.Moments.{Rests}

@@ -9,7 +9,7 @@ use Rattle.cdb_model.specs.TileFile.{tile_bytes}
 use Rattle.cdb_source.proofs.DecodingLaws.{gives}
 use Rattle.cdb_source.proofs.TextLaws.{length-front_text, length-posts_text}
 use Rattle.cdb_check.specs.Expected.{SourceFile, a_tile, Spells, SpellAll, IsAsExpected}
-use Rattle.cdb_check.specs.Outcome.{Judges, GivesFile, DecodesTo, Unread}
+use Rattle.cdb_check.specs.inside.Outcome.{Judges, GivesFile, DecodesTo, Unread}
 use Rattle.cdb_check.specs.declared.outcome.CheckError.{CheckError}
 use Rattle.cdb_check.specs.declared.outcome.CheckError.TheVariants.{Memory, Fault, Differs}
 use Rattle.cdb_source.specs.Texts.{source_front_text, posts_text, source_text}

@@ -18,9 +18,6 @@ pub record SourceFile : Type 0 where
   pub number : ℕ
   pub head : SourceHead
 
-abbrev pub source_file : ℕ → ℕ → SourceHead → SourceFile
-source_file version number head = record { version = version; number = number; head = head }
-
 -- a file that must be there: a record; a source file; or a tile of a version, which takes its values from the sources
 -- of these files
 pub data Expected : Type 0 where

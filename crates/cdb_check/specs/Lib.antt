@@ -3,3 +3,4 @@ pub mod Kept
 pub mod Laws
 pub mod Outcome
 pub mod Rooms
+pub mod inside

@@ -1,24 +1,14 @@
 -- What a check of files answers.
-use Rattle.std.specs.Prelude.{◌≡◌, ◌≢◌, ℕ, ◌≤◌, List, length, Some, Result, Ok, Err}
-use Rattle.cdb_source.specs.declared.source.Source.{Source}
-use Rattle.cdb_source.specs.declared.head.SourceHead.{SourceHead}
-use Rattle.cdb_source.specs.Texts.{source_text}
+use Rattle.std.specs.Prelude.{◌≡◌, ℕ, ◌≤◌, List, length, Result, Ok, Err}
 use Rattle.cdb_files.specs.Disk.{State}
 use Rattle.cdb_files.specs.Moments.{Rests}
 use Rattle.cdb_model.specs.Causes.{Rose}
-use Rattle.cdb_model.specs.Maps.{Text, Content, FileMap, size_of}
+use Rattle.cdb_model.specs.Maps.{FileMap}
 use Rattle.cdb_manifest.specs.declared.record_.Record.{Record}
-use Rattle.cdb_check.specs.Expected.{SourceFile, Expected, AllAsExpected, FirstOther, Spells, expected_files}
+use Rattle.cdb_check.specs.Expected.{Expected, AllAsExpected, FirstOther, expected_files}
 use Rattle.cdb_check.specs.declared.outcome.Agreed.{Agreed}
 use Rattle.cdb_check.specs.declared.outcome.CheckError.{CheckError}
 use Rattle.cdb_check.specs.declared.outcome.CheckError.TheVariants.{Memory, Fault, Differs}
-
--- one file was looked at: it is what it must be, or it isn't and its path is told
-abbrev pub Judges : {T : Type 0} → Type 0 → Text → Result T CheckError → Type 0
-Judges Met q (Ok _) = Met
-Judges Met q (Err Memory) = Unit {0}
-Judges Met q (Err Fault) = Unit {0}
-Judges Met q (Err (Differs path)) = (Met → ⊥) × (path.bytes ≡ q)
 
 -- files were looked at in turn: all are what they must be, or the path of the first that isn't is told
 abbrev pub FirstDiffering : {T : Type 0} → FileMap → List Expected → Result T CheckError → Type 0
@@ -26,13 +16,6 @@ FirstDiffering m list (Ok _) = AllAsExpected m list
 FirstDiffering m list (Err Memory) = Unit {0}
 FirstDiffering m list (Err Fault) = Unit {0}
 FirstDiffering m list (Err (Differs path)) = FirstOther m list path.bytes
-
--- a source file gave a source, or none that it should give
-abbrev pub GivesFile : FileMap → SourceFile → Result Source CheckError → Type 0
-GivesFile m file (Ok s) = Spells m file s
-GivesFile m file (Err Memory) = Unit {0}
-GivesFile m file (Err Fault) = Unit {0}
-GivesFile m file (Err (Differs path)) = ((s : Source) → Spells m file s → ⊥)
 
 -- ---- a disk that is only read
 
@@ -47,31 +30,6 @@ pub record OnlyReads {D : Type 0} (clock : D → ℕ) (since : D → ℕ → Fil
 abbrev pub IsFaultCaused : {T : Type 0} → ℕ → ℕ → Result T CheckError → Type 0
 IsFaultCaused before now (Err Fault) = Rose before now
 IsFaultCaused before now _ = Unit {0}
-
--- bytes give a source with a head, or there is none whose file they are
-abbrev pub DecodesTo : List ℕ → SourceHead → Result Source CheckError → Type 0
-DecodesTo bytes head (Ok s) = (bytes ≡ source_text s) × (s.head ≡ head)
-DecodesTo bytes head (Err Memory) = Unit {0}
-DecodesTo bytes head (Err Fault) = Unit {0}
-DecodesTo bytes head (Err (Differs path)) = (s : Source) → bytes ≡ source_text s → s.head ≡ head → ⊥
-
--- memory ran out, or this path is told
-abbrev pub IsAbout : Text → CheckError → Type 0
-IsAbout q Memory = Unit {0}
-IsAbout q Fault = ⊥
-IsAbout q (Differs path) = path.bytes ≡ q
-
--- a file was not read: where it differs, its size is another
-abbrev pub Unread : Content → ℕ → CheckError → Type 0
-Unread content len Memory = Unit {0}
-Unread content len Fault = Unit {0}
-Unread content len (Differs path) = size_of content ≢ Some len
-
--- the path that is told, if one is
-abbrev pub IsAt : Text → CheckError → Type 0
-IsAt q Memory = Unit {0}
-IsAt q Fault = Unit {0}
-IsAt q (Differs path) = path.bytes ≡ q
 
 -- so many versions, and so many files that must be there
 pub record TellsCounts (records : List Record) (agreed : Agreed) : Type 0 where

@@ -6,9 +6,11 @@ ghost use Rattle.cdb_model.specs.TileFile.{tile_bytes};
 ghost use Rattle.cdb_cut.specs.OneTile.{IsFrameOf};
 ghost use Rattle.cdb_tiff_write.specs.Rasters.{tile_size};
 ghost use Rattle.cdb_manifest.specs.Entries.{Ascending};
-ghost use Rattle.cdb_check.specs.Expected.{SourceFile, source_file, a_record, a_tile, IsAsExpected, MayTouch, SpellAll};
+ghost use Rattle.cdb_check.specs.Expected.{SourceFile, a_record, a_tile, IsAsExpected, MayTouch, SpellAll};
+ghost use Rattle.cdb_check.specs.inside.Expected.{source_file};
 ghost use Rattle.cdb_check.specs.Kept.{AreKeptFrames};
-ghost use Rattle.cdb_check.specs.Outcome.{Judges, GivesFile, DecodesTo, OnlyReads, IsFaultCaused, IsAbout, IsAt, Unread};
+ghost use Rattle.cdb_check.specs.Outcome.{OnlyReads, IsFaultCaused};
+ghost use Rattle.cdb_check.specs.inside.Outcome.{Judges, GivesFile, DecodesTo, IsAbout, IsAt, Unread};
 ghost use Rattle.cdb_check.specs.Rooms.{IsRoomy};
 ghost use Rattle.cdb_check.specs.declared.outcome.CheckError.TheVariants as CheckError;
 

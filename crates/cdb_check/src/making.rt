@@ -7,7 +7,8 @@ ghost use Rattle.cdb_grid.specs.Tiles.{tile_side};
 ghost use Rattle.cdb_grid.specs.declared.tile.Tile as grid;
 ghost use Rattle.cdb_cut.specs.Laws.{IsOwn, IsExtreme};
 ghost use Rattle.cdb_cut.specs.OneTile.{four_rule, IsFrameOf, IsFolded, IsWholeFolded};
-ghost use Rattle.cdb_cut.specs.FinerTiles.{IsPlain, AreChildren, elevation_tile};
+ghost use Rattle.cdb_cut.specs.FinerTiles.{AreChildren, elevation_tile};
+ghost use Rattle.cdb_cut.specs.inside.FinerTiles.{IsPlain};
 ghost use Rattle.cdb_check.specs.Kept.{AreKeptFrames};
 
 use crate::kept::Kept;

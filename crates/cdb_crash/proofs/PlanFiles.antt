@@ -14,7 +14,8 @@ use Rattle.cdb_model.specs.Names.{record_path, source_path, path, name, fields_o
 use Rattle.cdb_model.specs.declared.name_error.NameError.{NameError}
 use Rattle.cdb_model.specs.Stands.{IsPublication, ArePublications, IsVersionFile}
 use Rattle.cdb_model.specs.TileFile.{tile_bytes}
-use Rattle.cdb_names.specs.Fields.{lat_folder_at, lon_folder_at, dataset_folder_at, level_folder_at, up_folder_at, across}
+use Rattle.cdb_names.specs.Fields.{across}
+use Rattle.cdb_names.specs.inside.Fields.{lat_folder_at, lon_folder_at, dataset_folder_at, level_folder_at, up_folder_at}
 use Rattle.cdb_names.specs.Reading.{Spelled, spelled_tile, name_at, dataset_folder_of}
 use Rattle.cdb_names.proofs.NameLaws.{name_again}
 use Rattle.cdb_names.proofs.NameResults.{anywhere}

@@ -23,9 +23,10 @@ use Rattle.cdb_source.specs.Reached.{kind_of}
 use Rattle.cdb_source.specs.Sample.{IsBefore, is_before, IsInBox, is_in_box, corner_of, box_height, box_width, row_step, column_step, value_of, post_at, value_in, sample_at}
 use Rattle.cdb_source.proofs.OfferLaws.{or_none}
 use Rattle.cdb_source.proofs.SampleLaws.{in_box_of_sample}
-use Rattle.cdb_cut.specs.Blend.{mean_of_four, value_from}
+use Rattle.cdb_cut.specs.Blend.{value_from}
+use Rattle.cdb_cut.specs.inside.Blend.{mean_of_four}
 use Rattle.cdb_cut.specs.Window.{LooksAt, IsWindow, rows_of}
-use Rattle.cdb_cut.specs.Parts.{IsPartOf}
+use Rattle.cdb_cut.specs.inside.Parts.{IsPartOf}
 use Rattle.cdb_cut.specs.Painted.{window_post, painted_rule, IsCovered}
 use Rattle.cdb_cut.specs.OneTile.{IsPainted}
 use Rattle.cdb_cut.proofs.Plain.{near_post}

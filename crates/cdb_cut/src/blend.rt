@@ -6,7 +6,7 @@ ghost use Rattle.cdb_grid.specs.Units.{raised};
 ghost use Rattle.cdb_source.specs.declared.kind.Kind.TheVariants.{Elevation};
 ghost use Rattle.cdb_source.specs.Posts.{coded};
 ghost use Rattle.cdb_source.specs.Sample.{value_of};
-ghost use Rattle.cdb_cut.specs.Blend.{mixed, blended, nearest, mean_of_four};
+ghost use Rattle.cdb_cut.specs.inside.Blend.{mixed, blended, nearest, mean_of_four};
 
 const NONE: i16 = -32768;
 

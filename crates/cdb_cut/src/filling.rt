@@ -6,7 +6,8 @@ ghost use Rattle.cdb_source.specs.Posts.{none_of, coded};
 ghost use Rattle.cdb_source.specs.Sample.{value_of};
 ghost use Rattle.cdb_source.specs.Reached.{kind_of};
 ghost use Rattle.cdb_grid.specs.Frames.{IsRowChanged};
-ghost use Rattle.cdb_cut.specs.OneTile.{IsFilled, older_rule};
+ghost use Rattle.cdb_cut.specs.OneTile.{IsFilled};
+ghost use Rattle.cdb_cut.specs.inside.OneTile.{older_rule};
 
 use cdb_grid::Tile;
 use cdb_source::{Kind, kind_of};

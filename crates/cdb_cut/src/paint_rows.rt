@@ -6,7 +6,8 @@ ghost use Rattle.cdb_source.specs.declared.kind.Kind.TheVariants.{Elevation, Mat
 ghost use Rattle.cdb_source.specs.Posts.{coded};
 ghost use Rattle.cdb_source.specs.Sample.{value_of};
 ghost use Rattle.cdb_cut.specs.Window.{LooksAt};
-ghost use Rattle.cdb_cut.specs.Painted.{mean_rule, cell_rule, Stand};
+ghost use Rattle.cdb_cut.specs.Painted.{Stand};
+ghost use Rattle.cdb_cut.specs.inside.Painted.{mean_rule, cell_rule};
 
 use crate::blend::{Between, FourMean, or_mean};
 use crate::walk::{Columns, post_beyond};

@@ -5,7 +5,8 @@ ghost use Rattle.cdb_grid.specs.Frames.{IsRowChanged};
 ghost use Rattle.cdb_source.specs.declared.kind.Kind.TheVariants.{Elevation, Material};
 ghost use Rattle.cdb_grid.specs.Tiles.{tile_side};
 ghost use Rattle.cdb_source.specs.declared.source.Source as sources;
-ghost use Rattle.cdb_cut.specs.Painted.{mean_rule, painted_rule, IsCovered, Stand};
+ghost use Rattle.cdb_cut.specs.Painted.{painted_rule, IsCovered, Stand};
+ghost use Rattle.cdb_cut.specs.inside.Painted.{mean_rule};
 ghost use Rattle.cdb_cut.specs.Window.{LooksAt, IsWindow, rows_of};
 ghost use Rattle.cdb_cut.specs.OneTile.{IsPainted};
 

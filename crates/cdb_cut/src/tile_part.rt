@@ -4,7 +4,7 @@ ghost use Rattle.std.specs.Prelude.{◌≡◌, ℕ, ◌+◌, ◌-◌, ◌*◌, �
 ghost use Rattle.cdb_grid.specs.Units.{degree};
 ghost use Rattle.cdb_grid.specs.Tiles.{tile_side};
 ghost use Rattle.cdb_cut.specs.Window.{IsWindow};
-ghost use Rattle.cdb_cut.specs.Parts.{IsPartOf, IsReduced};
+ghost use Rattle.cdb_cut.specs.inside.Parts.{IsPartOf, IsReduced};
 
 use crate::axis::{Run, columns_in_box, places_of, rows_in_box};
 use crate::source_rows::Rows;

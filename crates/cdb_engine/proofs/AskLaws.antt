@@ -18,7 +18,7 @@ use Rattle.cdb_sessions.specs.declared.sessions.Reply.{Reply}
 use Rattle.cdb_sessions.specs.declared.sessions.Reply.TheVariants.{Missing, Bytes}
 use Rattle.cdb_engine.specs.StoreAnswers.{tile_answer}
 use Rattle.cdb_engine.specs.Tracks.{Leads}
-use Rattle.cdb_engine.specs.Populating.{asked_by, LeavesState, IsOpenAt}
+use Rattle.cdb_engine.specs.inside.Populating.{asked_by, LeavesState, IsOpenAt}
 use Rattle.cdb_engine.specs.declared.errors.PopulateError.{PopulateError}
 use Rattle.cdb_engine.specs.declared.errors.PopulateError.TheVariants.{Memory, Fault, Entries, Versions, Damaged}
 

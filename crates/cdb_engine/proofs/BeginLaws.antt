@@ -11,7 +11,7 @@ use Rattle.cdb_engine.specs.declared.errors.PublishError.TheVariants as publish
 use Rattle.cdb_engine.specs.declared.reply.Begun.{Begun}
 use Rattle.cdb_generate.specs.Generator.{PublicationDrawn}
 use Rattle.cdb_generate.proofs.LoadLaws.{drawn_fits}
-use Rattle.cdb_engine.specs.Populating.{begun_of, BeginsDrawn}
+use Rattle.cdb_engine.specs.inside.Populating.{begun_of, BeginsDrawn}
 use Rattle.cdb_engine.specs.declared.errors.PopulateError.{PopulateError}
 
 -- a publication has steps

@@ -16,7 +16,8 @@ use Rattle.cdb_engine.specs.StoreAnswers.{session_answer, close_answer}
 use Rattle.cdb_engine.specs.Tracks.{Leads}
 use Rattle.cdb_sessions.specs.declared.errors.SessionError.{SessionError}
 use Rattle.cdb_sessions.specs.declared.errors.SessionError.TheVariants as session_error
-use Rattle.cdb_engine.specs.Populating.{LeavesState, IsAtRest, IsOpenAt, LeadsAfter, LeadsToRest, Sums}
+use Rattle.cdb_engine.specs.Populating.{IsAtRest}
+use Rattle.cdb_engine.specs.inside.Populating.{LeavesState, IsOpenAt, LeadsAfter, LeadsToRest, Sums}
 use Rattle.cdb_engine.specs.declared.errors.PopulateError.{PopulateError}
 use Rattle.cdb_engine.specs.declared.errors.PopulateError.TheVariants.{Memory, Fault, Entries, Versions, Damaged}
 

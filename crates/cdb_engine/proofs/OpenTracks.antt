@@ -23,7 +23,8 @@ use Rattle.cdb_recover.specs.declared.recover_error.RecoverError.TheVariants as 
 use Rattle.cdb_sessions.specs.Sessions.{Sessions, starts_empty}
 use Rattle.cdb_engine.specs.Held.{held_of, IsEngine}
 use Rattle.cdb_engine.specs.Stays.{bare_of}
-use Rattle.cdb_engine.specs.Store.{IsStore, IsNoStore, TellsNoStore, IsStoreFound, open_error_of}
+use Rattle.cdb_engine.specs.Store.{IsStore, IsNoStore, TellsNoStore, IsStoreFound}
+use Rattle.cdb_engine.specs.inside.Store.{open_error_of}
 use Rattle.cdb_engine.specs.Tracks.{Tracks}
 use Rattle.cdb_engine.proofs.StepTracks.{adds_map}
 

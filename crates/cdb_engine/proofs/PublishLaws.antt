@@ -20,7 +20,8 @@ use Rattle.cdb_engine.specs.Tracks.{Origin, Leads}
 use Rattle.cdb_engine.proofs.StayLaws.{stays_shows, stays_alike}
 use Rattle.cdb_generate.specs.Generator.{PublicationDrawn}
 use Rattle.cdb_generate.specs.Sums.{tiles_sum}
-use Rattle.cdb_engine.specs.Populating.{IsAtRest, IsDrawnNext, IsSumAt, CameTo, not_begun, given_up, complete, PublishesIn, IsGoingOf, BeginsDrawn, FinishesSteps, LeadsAfter, Sums}
+use Rattle.cdb_engine.specs.Populating.{IsAtRest, IsDrawnNext, IsSumAt, CameTo, not_begun, given_up, complete, PublishesIn}
+use Rattle.cdb_engine.specs.inside.Populating.{IsGoingOf, BeginsDrawn, FinishesSteps, LeadsAfter, Sums}
 use Rattle.cdb_engine.specs.declared.errors.PopulateError.{PopulateError}
 use Rattle.cdb_engine.specs.declared.errors.PopulateError.TheVariants.{Memory, Fault, Entries, Versions, Damaged}
 use Rattle.cdb_engine.specs.declared.drawn_publication.Published.{Published}

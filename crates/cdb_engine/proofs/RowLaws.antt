@@ -16,7 +16,7 @@ use Rattle.cdb_tiff_base.specs.Pixels.{pixel}
 use Rattle.cdb_tiff_base.specs.Strips.{image_width}
 use Rattle.cdb_model.specs.Spelled.{row_of_pixels}
 use Rattle.cdb_model.specs.Text.{last_first}
-use Rattle.cdb_engine.specs.Words.{HasRows}
+use Rattle.cdb_engine.specs.inside.Words.{HasRows}
 
 -- what a failed call leaves, where the reason is known
 pub on_err : {T E : Type 0} (P : Type 0) (r : Result T E) → P → OnErr r P

@@ -11,7 +11,8 @@ use Rattle.cdb_model.specs.Grammar.{Head, InlineSource, FileSource}
 use Rattle.cdb_model.specs.ImageFiles.{SpellsNone}
 use Rattle.cdb_model.specs.Spelled.{SpellsHead, SpellsSource, SpellsLoaded, spelled_row, row_of_pixels}
 use Rattle.cdb_model.specs.Text.{last_first}
-use Rattle.cdb_engine.specs.Words.{HasRows, SpellsNoHead}
+use Rattle.cdb_engine.specs.Words.{SpellsNoHead}
+use Rattle.cdb_engine.specs.inside.Words.{HasRows}
 use Rattle.cdb_engine.proofs.RowLaws.{all_allowed}
 
 -- a row that isn't allowed, over the fields of a maker

@@ -6,11 +6,12 @@ use Rattle.cdb_model.specs.Stores.{Kind, Which, known, any, store_kind}
 use Rattle.cdb_model.specs.Transitions.{StateIn, GoingIn, GivenUpIn}
 use Rattle.cdb_publish.specs.declared.errors.Progress.{Progress}
 use Rattle.cdb_publish.specs.declared.errors.Progress.TheVariants as progress
-use Rattle.cdb_engine.specs.StoreAnswers.{TriesIn, LeftIn, advance_answer}
+use Rattle.cdb_engine.specs.StoreAnswers.{TriesIn, advance_answer}
+use Rattle.cdb_engine.specs.inside.StoreAnswers.{LeftIn}
 use Rattle.cdb_engine.specs.Tracks.{Leads}
 use Rattle.cdb_engine.specs.declared.errors.AdvanceError.{AdvanceError}
 use Rattle.cdb_engine.specs.declared.errors.AdvanceError.TheVariants as advance
-use Rattle.cdb_engine.specs.Populating.{ended_by, FinishesSteps}
+use Rattle.cdb_engine.specs.inside.Populating.{ended_by, FinishesSteps}
 use Rattle.cdb_engine.specs.declared.errors.PopulateError.{PopulateError}
 
 -- a state in which so many steps are left

@@ -12,7 +12,8 @@ use Rattle.cdb_publish.specs.declared.errors.Progress.{Progress}
 use Rattle.cdb_publish.specs.declared.errors.StepError.{StepError}
 use Rattle.cdb_publish.specs.declared.publication.Publication as publish
 use Rattle.cdb_engine.specs.Held.{Held, CanStep, IsEngine}
-use Rattle.cdb_engine.specs.StoreAnswers.{TriesIn, advance_answer, advance_of, work_after, halt_after, HaltsBy, AdvanceCause}
+use Rattle.cdb_engine.specs.StoreAnswers.{TriesIn, advance_answer, advance_of, HaltsBy, AdvanceCause}
+use Rattle.cdb_engine.specs.inside.StoreAnswers.{work_after, halt_after}
 use Rattle.cdb_engine.specs.Stays.{Stays}
 use Rattle.cdb_engine.specs.Tracks.{Tracks, Origin, Leads, DuringNow}
 use Rattle.cdb_engine.specs.declared.errors.AdvanceError.{AdvanceError}

@@ -28,7 +28,8 @@ use Rattle.cdb_publish.specs.declared.errors.StepError.TheVariants as made
 use Rattle.cdb_publish.specs.declared.publication.Publication as publish
 use Rattle.cdb_sessions.specs.Cache.{Kept}
 use Rattle.cdb_engine.specs.Held.{Held, CanStep, IsEngine}
-use Rattle.cdb_engine.specs.StoreAnswers.{TriesIn, advance_answer, advance_of, work_after, halt_after, HaltsBy, AdvanceCause}
+use Rattle.cdb_engine.specs.StoreAnswers.{TriesIn, advance_answer, advance_of, HaltsBy, AdvanceCause}
+use Rattle.cdb_engine.specs.inside.StoreAnswers.{work_after, halt_after}
 use Rattle.cdb_engine.specs.Stays.{bare_of, going_of}
 use Rattle.cdb_engine.specs.Tracks.{IsGoing, Works, IsFileOf, Tracks, Origin, Follows, Leads, DuringStep, DuringNow}
 use Rattle.cdb_engine.proofs.StepCounts.{entries_more}

@@ -13,7 +13,6 @@ use Rattle.cdb_engine.specs.Populating.{IsAtRest, StopsBy}
 use Rattle.cdb_engine.specs.declared.errors.PopulateError.{PopulateError}
 use Rattle.cdb_engine.specs.declared.errors.PopulateError.TheVariants.{Memory, Damaged}
 use Rattle.cdb_engine.specs.declared.filling.Made.{Made}
-use Rattle.cdb_engine.specs.declared.drawn_publication.Published.{Published}
 
 -- ---- a store that is known, and any
 
@@ -39,11 +38,6 @@ pub record StopsAfter (w : Which) (old : StateIn (store_kind w)) (start count : 
   pub mid : StateIn (store_kind w)
   pub made : AreMade w old start done files sum mid
   pub stops : StopsBy w mid (passed done start) error new
-
-abbrev pub FillsIn : (w : Which) → StateIn (store_kind w) → ℕ → ℕ → Result Published PopulateError → StateIn (store_kind w)
-    → Type 0
-FillsIn w old start count (Ok made) new = AreMade w old start count made.files made.sum new
-FillsIn w old start count (Err error) new = StopsAfter w old start count error new
 
 -- all of them are made, and the newest version is told; or there was no memory to begin with, or they stopped
 abbrev pub PopulatesIn : (w : Which) → StateIn (store_kind w) → ℕ → ℕ → Result Made PopulateError → StateIn (store_kind w)

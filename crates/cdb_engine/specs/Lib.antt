@@ -9,3 +9,4 @@ pub mod Store
 pub mod StoreAnswers
 pub mod Tracks
 pub mod Words
+pub mod inside

@@ -10,7 +10,6 @@ use Rattle.cdb_chain.specs.Opening.{IsFirstBad}
 use Rattle.cdb_chain.specs.declared.open_error.OpenError.{OpenError}
 use Rattle.cdb_chain.specs.declared.open_error.OpenError.TheVariants.{Memory, Fault, NotAStore}
 use Rattle.cdb_recover.specs.Answers.{IsAnswer, KeepsStore}
-use Rattle.cdb_recover.specs.declared.recover_error.RecoverError.{RecoverError}
 use Rattle.cdb_recover.specs.declared.recover_error.RecoverError.TheVariants as recovery
 
 -- after a fault without a stop: a clear disk that stands for the list at present; a crash may also leave the other one
@@ -28,11 +27,6 @@ IsStore list (other ∷ []) d = IsLeft list other d
 IsStore list _ d = ⊥
 
 -- ---- why a disk has no store
-
--- an error of recovery, as one of opening
-abbrev pub open_error_of : RecoverError → OpenError
-open_error_of recovery.Fault = Fault
-open_error_of (recovery.NotAStore version place) = NotAStore version place
 
 -- recovery refuses the files that were there; or it gives the newest version, and of the versions up to it one has a
 -- bad record among the files that recovery leaves, the first such version

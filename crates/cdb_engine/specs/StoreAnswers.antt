@@ -4,7 +4,7 @@ use Rattle.cdb_model.specs.Causes.{Rose}
 use Rattle.cdb_model.specs.Events as machine
 use Rattle.cdb_model.specs.Events.{Answer}
 use Rattle.cdb_model.specs.Stores.{Kind}
-use Rattle.cdb_model.specs.Transitions.{StateIn, GoingIn, AdvancesIn, IsIdleIn}
+use Rattle.cdb_model.specs.Transitions.{StateIn, AdvancesIn, IsIdleIn}
 use Rattle.cdb_publish.specs.Going.{left_of}
 use Rattle.cdb_publish.specs.declared.errors.PlanError.{PlanError}
 use Rattle.cdb_publish.specs.declared.errors.PlanError.TheVariants as plan
@@ -91,26 +91,10 @@ TriesIn k old machine.halted new = IsSome old.halted × (old.going ≡ None) × 
 TriesIn k old machine.nothing new = IsIdleIn k old × (new ≡ old)
 TriesIn k old answer new = AdvancesIn k old answer new
 
--- so many steps are left of what is going
-abbrev pub LeftIn : (k : Kind) → Option (GoingIn k) → ℕ → Type 0
-LeftIn k None n = n ≡ 0
-LeftIn k (Some now) n = n ≡ now.left
-
 -- how many steps are left of what an engine works on
 abbrev pub steps_left : Option Publication → ℕ
 steps_left None = 0
 steps_left (Some work) = left_of work
-
--- the publication stays where a step was made and others are left, and goes in every other case
-abbrev pub work_after : Result Progress StepError → Publication → Option Publication
-work_after (Ok progress.Going) work = Some work
-work_after (Ok (progress.Published version)) work = None
-work_after (Err _) work = None
-
--- an error halts the engine, at this count of failed calls
-abbrev pub halt_after : Result Progress StepError → ℕ → Option ℕ
-halt_after (Ok _) faults = None
-halt_after (Err _) faults = Some faults
 
 abbrev pub advance_of : Result Progress StepError → Result Progress AdvanceError
 advance_of (Ok p) = Ok p

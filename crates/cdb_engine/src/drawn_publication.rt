@@ -5,7 +5,8 @@ ghost use Rattle.cdb_model.specs.Transitions.{StateIn, GoingIn};
 ghost use Rattle.cdb_engine.specs.Stays.{Stays, bare_of};
 ghost use Rattle.cdb_engine.specs.Tracks.{Origin, Leads};
 ghost use Rattle.cdb_generate.specs.Generator.{PublicationDrawn, state_next};
-ghost use Rattle.cdb_engine.specs.Populating.{begun_of, BeginsDrawn, ended_by, FinishesSteps, IsAtRest, PublishesIn};
+ghost use Rattle.cdb_engine.specs.Populating.{IsAtRest, PublishesIn};
+ghost use Rattle.cdb_engine.specs.inside.Populating.{begun_of, BeginsDrawn, ended_by, FinishesSteps};
 ghost use Rattle.cdb_model.specs.Causes.{Rose};
 ghost use Rattle.cdb_engine.specs.StoreAnswers.{AdvanceCause};
 

@@ -8,7 +8,8 @@ ghost use Rattle.cdb_model.specs.Stores.{Which, store_kind, known, any_store};
 ghost use Rattle.cdb_model.specs.Transitions.{StateIn};
 ghost use Rattle.cdb_engine.specs.Stays.{Stays, bare_of};
 ghost use Rattle.cdb_engine.specs.Tracks.{Origin, Leads};
-ghost use Rattle.cdb_engine.specs.Filling.{FillsIn, PopulatesIn, Populates};
+ghost use Rattle.cdb_engine.specs.Filling.{PopulatesIn, Populates};
+ghost use Rattle.cdb_engine.specs.inside.Filling.{FillsIn};
 ghost use Rattle.cdb_engine.specs.Populating.{IsAtRest};
 
 use crate::drawn_publication::{Published, publish_one};

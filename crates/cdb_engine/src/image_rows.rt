@@ -5,7 +5,7 @@ ghost use Rattle.cdb_model.specs.Grammar.{file_in};
 ghost use Rattle.cdb_model.specs.Spelled.{row_of_pixels};
 ghost use Rattle.cdb_model.specs.Text.{last_first};
 ghost use Rattle.cdb_tiff_read.specs.Opened.{IsOpened};
-ghost use Rattle.cdb_engine.specs.Words.{HasRows};
+ghost use Rattle.cdb_engine.specs.inside.Words.{HasRows};
 ghost use Rattle.cdb_engine.specs.Loading.{IsMadeOf};
 
 use crate::errors::LoadError;

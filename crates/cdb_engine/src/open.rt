@@ -9,7 +9,8 @@ ghost use Rattle.cdb_model.specs.Transitions.{IsFreshIn};
 ghost use Rattle.cdb_files.specs.Moments.{AddsOnly};
 ghost use Rattle.cdb_engine.specs.Checks.{AreOpened};
 ghost use Rattle.cdb_engine.specs.Stays.{bare_of};
-ghost use Rattle.cdb_engine.specs.Store.{IsStore, IsStoreFound, TellsNoStore, open_error_of};
+ghost use Rattle.cdb_engine.specs.Store.{IsStore, IsStoreFound, TellsNoStore};
+ghost use Rattle.cdb_engine.specs.inside.Store.{open_error_of};
 ghost use Rattle.cdb_engine.specs.Tracks.{Tracks};
 
 use crate::engine::Engine;

@@ -5,7 +5,7 @@ ghost use Rattle.cdb_model.specs.Grammar.{inline_in};
 ghost use Rattle.cdb_model.specs.ImageFiles.{SpellsNone};
 ghost use Rattle.cdb_model.specs.Spelled.{SpellsSource, spelled_row};
 ghost use Rattle.cdb_model.specs.Text.{last_first};
-ghost use Rattle.cdb_engine.specs.Words.{HasRows};
+ghost use Rattle.cdb_engine.specs.inside.Words.{HasRows};
 
 use crate::InlineOrder;
 use crate::engine::Engine;

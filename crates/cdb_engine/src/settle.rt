@@ -1,6 +1,7 @@
 //! What a step leaves an engine with.
 ghost use Rattle.std.specs.Prelude.{◌≡◌};
-ghost use Rattle.cdb_engine.specs.StoreAnswers.{work_after, halt_after, advance_of};
+ghost use Rattle.cdb_engine.specs.StoreAnswers.{advance_of};
+ghost use Rattle.cdb_engine.specs.inside.StoreAnswers.{work_after, halt_after};
 
 use crate::errors::AdvanceError;
 use cdb_publish::{Progress, Publication, StepError};

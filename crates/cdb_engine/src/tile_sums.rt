@@ -11,7 +11,8 @@ ghost use Rattle.cdb_model.specs.Transitions.{StateIn};
 ghost use Rattle.cdb_source.specs.Reached.{Reached};
 ghost use Rattle.cdb_engine.specs.Stays.{Stays};
 ghost use Rattle.cdb_engine.specs.Tracks.{Origin};
-ghost use Rattle.cdb_engine.specs.Populating.{asked_by, LeavesState, IsAtRest, IsOpenAt, Sums};
+ghost use Rattle.cdb_engine.specs.Populating.{IsAtRest};
+ghost use Rattle.cdb_engine.specs.inside.Populating.{asked_by, LeavesState, IsOpenAt, Sums};
 
 use crate::engine::Engine;
 use crate::errors::PopulateError;

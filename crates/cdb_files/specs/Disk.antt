@@ -1,5 +1,5 @@
 -- The states of a disk, and what each call makes of one.
-use Rattle.std.specs.Prelude.{◌≡◌, ℕ, ◌≤◌, ◌<◌, ◌||◌, Bool, ◌⊎◌, List, [], ◌∷◌, ◌++◌, length, take, Option, None, Some, IsTrue, if◌then◌else◌}
+use Rattle.std.specs.Prelude.{◌≡◌, ℕ, ◌≤◌, ◌||◌, Bool, ◌⊎◌, List, [], ◌∷◌, ◌++◌, length, take, Option, None, Some, IsTrue, if◌then◌else◌}
 use Rattle.std.specs.Str.{bytes_eq}
 use Rattle.cdb_model.specs.Maps.{Text, Content, FileMap, put, folder_above, is_at_or_above}
 
@@ -101,7 +101,3 @@ pub record FailsMakeDir (old after new : State) : Type 0 where
   pub may : new.may ≡ old.may
   pub kept : (q : Text) → IsTrue (old.made q) → IsTrue (new.made q)
   pub some : (q : Text) → IsTrue (new.made q) → IsTrue (after.made q)
-
--- The clock moves on in a call that changes the map or a possibility.
-abbrev pub Moves : ℕ → ℕ → State → State → Type 0
-Moves before now old new = ((new.present ≡ old.present) × (new.may ≡ old.may)) ⊎ (before < now)

@@ -25,7 +25,8 @@ use Rattle.cdb_engine.specs.Held.{Held}
 use Rattle.cdb_engine.specs.Store.{IsStore, IsStoreFound}
 use Rattle.cdb_engine.specs.Tracks.{Tracks, Works}
 use Rattle.cdb_engine.proofs.OpenTracks.{adds_rests}
-use Rattle.cdb_front.specs.Checking.{SaysAgreed, SaysPart, FindsFiles, FindsListed, Checks, CompletesCheckOf, agrees_line, checked_status}
+use Rattle.cdb_front.specs.Checking.{SaysAgreed, SaysPart, FindsFiles, FindsListed, Checks, CompletesCheckOf, agrees_line}
+use Rattle.cdb_front.specs.inside.Checking.{checked_status}
 use Rattle.cdb_front.specs.Completeness.{Still}
 use Rattle.cdb_front.specs.Devices.{WritesPart}
 use Rattle.cdb_front.specs.EntryStore.{HasStore}

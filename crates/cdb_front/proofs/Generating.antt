@@ -27,7 +27,8 @@ use Rattle.cdb_engine.specs.declared.errors.PopulateError.TheVariants as populat
 use Rattle.cdb_engine.specs.declared.filling.Made.{Made}
 use Rattle.cdb_front.specs.Devices.{WritesPart}
 use Rattle.cdb_front.specs.EntryStore.{HasStore}
-use Rattle.cdb_front.specs.Generating.{SaysMade, SaysLess, EndsMade, StopsFrom, SaysStop, Fills, CompletesFillOf, made_status}
+use Rattle.cdb_front.specs.Generating.{SaysMade, SaysLess, EndsMade, StopsFrom, SaysStop, Fills, CompletesFillOf}
+use Rattle.cdb_front.specs.inside.Generating.{made_status}
 use Rattle.cdb_front.specs.RunOutcome.{EndsWith, is_whole, is_part, status_of}
 use Rattle.cdb_front.specs.StatusCodes.{status_line}
 use Rattle.cdb_front.specs.declared.exit_status.Limit.{Limit}

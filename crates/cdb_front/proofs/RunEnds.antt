@@ -13,11 +13,11 @@ use Rattle.cdb_check.specs.declared.outcome.CheckError.{CheckError}
 use Rattle.cdb_check.specs.declared.outcome.CheckError.TheVariants as check
 use Rattle.cdb_engine.specs.Checks.{AreOpened}
 use Rattle.cdb_engine.specs.Store.{IsStoreFound, TellsNoStore}
-use Rattle.cdb_front.specs.Checking.{checked_status}
+use Rattle.cdb_front.specs.inside.Checking.{checked_status}
 use Rattle.cdb_front.specs.Failures.{ReadsOnce}
 use Rattle.cdb_front.specs.RunOutcome.{StopsScript, IsOfStore, Hears, AllMade, WritesAnswers, EndsScript, HasRecords, SaysStore, WasOpened, HasNoStore, status_of}
 use Rattle.cdb_front.specs.RunProgress.{Sight, RunStart, Told, RunSoFar, Answered, IsQuit, Broken, UpTo}
-use Rattle.cdb_front.specs.RunReading.{Reading}
+use Rattle.cdb_front.specs.inside.RunReading.{Reading}
 use Rattle.cdb_front.specs.declared.exit_status.Status.{Status}
 use Rattle.cdb_front.specs.declared.exit_status.Status.TheVariants.{Done, Memory, Usage, InputFault, OutputFault, StoreFault, NotAStore, TooLong, Differs, Refused, Damaged}
 

@@ -27,7 +27,8 @@ use Rattle.cdb_front.specs.Devices.{WritesPart}
 use Rattle.cdb_engine.specs.Tracks.{Leads}
 use Rattle.cdb_front.specs.Hearing.{IsEvent, IsAnswered, SaysAsked}
 use Rattle.cdb_front.specs.Kept.{kept_of}
-use Rattle.cdb_front.specs.RunProgress.{Sight, RunStart, Holds, Runs, Ordered, Told, Torn, TornIn, Speaks, Stammers, SpeaksFed, TellsFed, RunSoFar, Answered, IsQuit, IsNotQuit, TakesLine, UpTo}
+use Rattle.cdb_front.specs.RunProgress.{Sight, RunStart, Holds, Runs, Ordered, Told, Torn, RunSoFar, Answered, IsQuit, IsNotQuit, TakesLine, UpTo}
+use Rattle.cdb_front.specs.inside.RunProgress.{TornIn, Speaks, Stammers, SpeaksFed, TellsFed}
 use Rattle.cdb_front.specs.Stepping.{Counts}
 use Rattle.cdb_front.specs.declared.answers.Answer.{Answer}
 use Rattle.cdb_front.specs.declared.answers.Answer.TheVariants as answer

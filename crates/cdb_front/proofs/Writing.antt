@@ -3,7 +3,8 @@ use Rattle.std.proofs.Common.{◌≡◌, ◌≢◌, ℕ, List, [], ◌∷◌, �
 use Rattle.std.proofs.lemmas.List.{take-append-drop}
 use Rattle.std.specs.Io.KnownBytes.{Appends}
 use Rattle.std.proofs.KnownBytes.{Appends-nil, Appends-trans}
-use Rattle.cdb_front.specs.Devices.{WritesPart, WritesLess}
+use Rattle.cdb_front.specs.Devices.{WritesPart}
+use Rattle.cdb_front.specs.inside.Devices.{WritesLess}
 
 -- some of the piece is written, and the rest is still to come
 pub record Appending (old now : Option (List ℕ)) (piece rest : List ℕ) : Type 0 where

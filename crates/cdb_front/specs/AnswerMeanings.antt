@@ -1,5 +1,5 @@
 -- The answers of the program: which answer of the machine each is, and how it is written.
-use Rattle.std.specs.Prelude.{◌≡◌, ℕ, List, [], ◌∷◌, ◌++◌, length, codes, decimal, Option, None, Some}
+use Rattle.std.specs.Prelude.{◌≡◌, ℕ, List, [], ◌∷◌, ◌++◌, length, codes, Option, None, Some}
 use Rattle.cdb_tiff_base.specs.Words.{word_of}
 use Rattle.cdb_model.specs.Text.{Text, ended, numbered}
 use Rattle.cdb_model.specs.AnswerTexts.{sizes_text}
@@ -45,11 +45,6 @@ meant (LateDamaged expected found) reply = machine.late_damaged expected found
 abbrev pub HasLength : Answer → List ℕ → Type 0
 HasLength (Tile count) reply = count ≡ length reply
 HasLength _ reply = Unit {0}
-
--- a size that was found, or that there was none
-abbrev pub found_text : Option ℕ → Text
-found_text None = codes " none"
-found_text (Some found) = 32 ∷ decimal found
 
 -- the line of an answer
 abbrev pub head_of : Answer → Text

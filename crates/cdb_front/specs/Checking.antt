@@ -12,7 +12,6 @@ use Rattle.cdb_files.specs.Disk as disk
 use Rattle.cdb_manifest.specs.declared.record_.Record.{Record}
 use Rattle.cdb_check.specs.Expected.{Agrees, FirstOther, expected_files}
 use Rattle.cdb_check.specs.Laws.{IsFileCount}
-use Rattle.cdb_check.specs.declared.outcome.CheckError.{CheckError}
 use Rattle.cdb_check.specs.declared.outcome.CheckError.TheVariants as check
 use Rattle.cdb_engine.specs.Checks.{AreOpened}
 use Rattle.cdb_front.specs.Completeness.{Still}
@@ -48,12 +47,6 @@ SaysAgreed old new TooLong = ⊥
 SaysAgreed old new (Refused limit) = ⊥
 SaysAgreed old new (Damaged expected found) = ⊥
 SaysAgreed old new status = Appends old new (status_line status)
-
--- how a run ends whose check failed
-abbrev pub checked_status : CheckError → Status
-checked_status check.Memory = Memory
-checked_status check.Fault = StoreFault
-checked_status (check.Differs path) = Differs path
 
 -- ---- what is answered over a disk that tells
 

@@ -1,6 +1,6 @@
 -- What the devices of the script do, and what those in memory are seen as.
-use Rattle.std.specs.Prelude.{◌≡◌, ◌≢◌, ℕ, List, [], ◌∷◌, ◌++◌, Option}
-use Rattle.std.specs.Io.KnownBytes.{Appends, Keeps}
+use Rattle.std.specs.Prelude.{◌≡◌, ◌≢◌, ℕ, List, [], ◌++◌, Option}
+use Rattle.std.specs.Io.KnownBytes.{Appends}
 
 -- a part of a piece was written, and not all of it
 pub record WritesPart (old new : Option (List ℕ)) (piece : List ℕ) : Type 0 where
@@ -9,11 +9,6 @@ pub record WritesPart (old new : Option (List ℕ)) (piece : List ℕ) : Type 0 
   pub joined : piece ≡ part ++ rest
   pub short : rest ≢ []
   pub appended : Appends old new part
-
--- what a failed write leaves: nothing of an empty piece, and else a part
-abbrev pub WritesLess : Option (List ℕ) → Option (List ℕ) → List ℕ → Type 0
-WritesLess old new [] = Keeps old new
-WritesLess old new (byte ∷ piece) = WritesPart old new (byte ∷ piece)
 
 -- an input in memory: what is left of it, how many bytes it gives at most in a call, the numbers of the calls that
 -- fail, and how many calls there were and how many failed

@@ -5,8 +5,6 @@ use Rattle.cdb_front.specs.declared.exit_status.Status.{Status}
 use Rattle.cdb_front.specs.declared.exit_status.Status.TheVariants.{InputFault, OutputFault}
 use Rattle.cdb_front.specs.declared.fed.Fed.{Fed}
 use Rattle.cdb_front.specs.declared.fed.Fed.TheVariants as fed
-use Rattle.cdb_front.specs.declared.read_turn.Turned.{Turned}
-use Rattle.cdb_front.specs.declared.read_turn.Turned.TheVariants.{Taken, Stopped}
 
 -- a call that fails raises the count by at most one, and no other call changes it
 abbrev pub FailsOnce : {T E : Type 0} → Result T E → ℕ → ℕ → Type 0
@@ -28,12 +26,3 @@ WritesOnce status before now = now ≡ before
 abbrev pub ReadsOnce : Status → ℕ → ℕ → Type 0
 ReadsOnce InputFault before now = now ≤ before + 1
 ReadsOnce status before now = now ≡ before
-
--- and of one read of the input and what follows it
-abbrev pub WritesInTurn : Turned → ℕ → ℕ → Type 0
-WritesInTurn (Taken count) before now = now ≡ before
-WritesInTurn (Stopped status) before now = WritesOnce status before now
-
-abbrev pub ReadsInTurn : Turned → ℕ → ℕ → Type 0
-ReadsInTurn (Taken count) before now = now ≡ before
-ReadsInTurn (Stopped status) before now = ReadsOnce status before now

@@ -53,14 +53,6 @@ SaysMade old new TooLong = ⊥
 SaysMade old new (Differs path) = ⊥
 SaysMade old new status = Appends old new (status_line status)
 
--- how a run ends that couldn't make all publications
-abbrev pub made_status : PopulateError → Status
-made_status populate.Memory = Memory
-made_status populate.Fault = StoreFault
-made_status (populate.Entries count) = Refused (Entries count)
-made_status populate.Versions = Refused Versions
-made_status (populate.Damaged expected found) = Damaged expected found
-
 -- ---- over a store
 
 abbrev pub error_of : Limit → PopulateError

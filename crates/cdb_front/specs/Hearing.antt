@@ -17,12 +17,6 @@ IsEvent line.Blank = ⊥
 IsEvent line.Quit = ⊥
 IsEvent _ = Unit {0}
 
--- nor asks for steps
-abbrev pub IsStepless : Line → Type 0
-IsStepless (line.Step n) = ⊥
-IsStepless line.StepAll = ⊥
-IsStepless l = IsEvent l
-
 abbrev pub IsAnswered : Asked → Type 0
 IsAnswered (asked.Line l) = IsEvent l
 IsAnswered _ = Unit {0}

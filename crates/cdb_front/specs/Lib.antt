@@ -9,7 +9,6 @@ pub mod AnswerMeanings
 pub mod StatusCodes
 pub mod RunProgress
 pub mod RunOutcome
-pub mod RunReading
 pub mod Failures
 pub mod Headline
 pub mod Completeness
@@ -17,3 +16,4 @@ pub mod Checking
 pub mod Generating
 pub mod Served
 pub mod Continued
+pub mod inside

@@ -4,16 +4,15 @@ use Rattle.std.specs.Io.KnownBytes.{Appends}
 use Rattle.cdb_model.specs.Text.{Text}
 use Rattle.cdb_model.specs.Maps.{Content, FileMap}
 use Rattle.cdb_model.specs.Commands as said
-use Rattle.cdb_model.specs.Commands.{Command, line_command}
+use Rattle.cdb_model.specs.Commands.{line_command}
 use Rattle.cdb_model.specs.Lines.{Cut, HaveNoQuit}
 use Rattle.cdb_model.specs.Events as machine
 use Rattle.cdb_model.specs.Stores.{Which, known, any, store_kind, any_store}
 use Rattle.cdb_model.specs.Transitions.{StateIn, IsFreshIn}
 use Rattle.cdb_model.specs.KnownStore.{KnownState, start_at}
-use Rattle.cdb_model.specs.Runs.{Item, Run, RunIn, PassesIn, items_of}
+use Rattle.cdb_model.specs.Runs.{Item, Run, RunIn, items_of}
 use Rattle.cdb_model.specs.AnswerTexts.{text_of_answer, texts_of, shelf_fault, disk_fault}
 use Rattle.cdb_model.specs.Images.{Base}
-use Rattle.cdb_front.specs.Devices.{WritesPart}
 use Rattle.cdb_engine.specs.Tracks.{Leads}
 use Rattle.cdb_front.specs.Kept.{kept_of}
 use Rattle.cdb_front.specs.Stepping.{Counts}
@@ -80,33 +79,6 @@ pub record Torn (tells : Type 0) (e : RunStart) (items : List Item) (written : O
   pub short : unwritten ≢ []
   pub appended : Appends e.written written (texts_of whole ++ part)
 
--- one item was gone through and its answers written, or a part of its one answer
-pub record Speaks (tells : Type 0) (files : FileMap) (item : Item) (before now : Option (List ℕ))
-    (shelf shelf' disk disk' : ℕ) (Old New : Sight) : Type 0 where
-  pub answers : List machine.Answer
-  pub passes : (w : Which) (s : StateIn (store_kind w)) → Old w s
-      → Leads (PassesIn (store_kind w) (Holds tells files) s item answers) (New w)
-  pub shelf_counted : Counts shelf_fault shelf shelf' answers
-  pub disk_counted : Counts disk_fault disk disk' answers
-  pub written : Appends before now (texts_of answers)
-
-pub record Stammers (tells : Type 0) (files : FileMap) (item : Item) (before now : Option (List ℕ))
-    (shelf shelf' disk disk' : ℕ) (Old New : Sight) : Type 0 where
-  pub answer : machine.Answer
-  pub passes : (w : Which) (s : StateIn (store_kind w)) → Old w s
-      → Leads (PassesIn (store_kind w) (Holds tells files) s item (answer ∷ [])) (New w)
-  pub shelf_counted : Counts shelf_fault shelf shelf' (answer ∷ [])
-  pub disk_counted : Counts disk_fault disk disk' (answer ∷ [])
-  pub written : WritesPart before now (text_of_answer answer)
-
-abbrev pub SpeaksFed : Type 0 → FileMap → Fed → Item → Option (List ℕ) → Option (List ℕ) → ℕ → ℕ → ℕ → ℕ → Sight
-    → Sight → Type 0
-SpeaksFed tells files fed.More item before now shelf shelf' disk disk' Old New = Speaks tells files item before now
-    shelf shelf' disk disk' Old New
-SpeaksFed tells files fed.Failed item before now shelf shelf' disk disk' Old New = Stammers tells files item before now
-    shelf shelf' disk disk' Old New
-SpeaksFed tells files fed.Quit item before now shelf shelf' disk disk' Old New = ⊥
-
 -- whole lines were read and answered, and the beginning of the next line is kept
 pub record RunSoFar (tells : Type 0) (e : RunStart) (read : Text) (written : Option (List ℕ)) (shelf disk : ℕ) (Now : Sight)
     (kept : Option (List ℕ)) : Type 0 where
@@ -158,13 +130,6 @@ TakesLine tells e fed.More read written shelf disk Now = Answered tells e IsNotQ
 TakesLine tells e fed.Quit read written shelf disk Now = Answered tells e IsQuit read written shelf disk Now
 TakesLine tells e fed.Failed read written shelf disk Now = Broken tells e read written shelf disk Now
 
--- a byte was taken
-abbrev pub TakesByte : Type 0 → RunStart → Fed → Text → ℕ → Option (List ℕ) → ℕ → ℕ → Sight → Option (List ℕ) → Type 0
-TakesByte tells e fed.More read byte written shelf disk Now kept = RunSoFar tells e (read ++ byte ∷ []) written
-    shelf disk Now kept
-TakesByte tells e fed.Quit read byte written shelf disk Now kept = Answered tells e IsQuit read written shelf disk Now
-TakesByte tells e fed.Failed read byte written shelf disk Now kept = Broken tells e read written shelf disk Now
-
 -- a piece was taken up to a line feed of it
 pub record UpTo (piece : Text) (X : Text → Type 0) : Type 0 where
   pub front : Text
@@ -181,17 +146,3 @@ TakesPiece tells e fed.Failed read piece written shelf disk Now kept = UpTo piec
     (λ front. Broken tells e (read ++ front) written shelf disk Now)
 
 -- ---- a line and the steps after it
-
--- a line was answered, but for a part of the last answer
-pub record TornIn (tells : Type 0) (e : RunStart) (items more : List Item) (written : Option (List ℕ)) (shelf disk : ℕ)
-    (Now : Sight) : Type 0 where
-  pub first : Item
-  pub made : List Item
-  pub unmade : List Item
-  pub joined : more ≡ first ∷ made ++ unmade
-  pub torn : Torn tells e (items ++ first ∷ made) written shelf disk Now
-
-abbrev pub TellsFed : Type 0 → RunStart → Fed → List Item → List Item → Option (List ℕ) → ℕ → ℕ → Sight → Type 0
-TellsFed tells e fed.More items more written shelf disk Now = Told tells e (items ++ more) written shelf disk Now
-TellsFed tells e fed.Quit items more written shelf disk Now = ⊥
-TellsFed tells e fed.Failed items more written shelf disk Now = TornIn tells e items more written shelf disk Now

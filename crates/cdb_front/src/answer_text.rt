@@ -3,7 +3,8 @@ ghost use Rattle.arrayvec.specs.ArrayString.{array_string_len};
 ghost use Rattle.cdb_model.specs.AnswerTexts.{sizes_text};
 ghost use Rattle.cdb_model.specs.Text.{ended};
 ghost use Rattle.cdb_tiff_base.specs.Words.{word_of, name_of, tag_text};
-ghost use Rattle.cdb_front.specs.AnswerMeanings.{head_of, found_text};
+ghost use Rattle.cdb_front.specs.AnswerMeanings.{head_of};
+ghost use Rattle.cdb_front.specs.inside.AnswerMeanings.{found_text};
 
 use crate::answers::Answer;
 use arrayvec::ArrayString;

@@ -2,7 +2,8 @@
 ghost use Rattle.std.specs.Prelude.{◌≡◌, ◌≢◌, ◌≤◌, OnOk, OnErr};
 ghost use Rattle.std.specs.Io.KnownBytes.{Appends};
 ghost use Rattle.cdb_model.specs.Causes.{Rose, HasCause};
-ghost use Rattle.cdb_front.specs.Checking.{Checks, agrees_line, checked_status};
+ghost use Rattle.cdb_front.specs.Checking.{Checks, agrees_line};
+ghost use Rattle.cdb_front.specs.inside.Checking.{checked_status};
 ghost use Rattle.cdb_front.specs.Devices.{WritesPart};
 ghost use Rattle.cdb_front.specs.Failures.{FailsOnce, WritesOnce};
 ghost use Rattle.cdb_front.specs.RunOutcome.{SaysStore};

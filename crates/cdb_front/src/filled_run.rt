@@ -6,7 +6,8 @@ ghost use Rattle.cdb_model.specs.Causes.{Rose, HasCause};
 ghost use Rattle.cdb_generate.specs.Generated.{summary_text, sum_line as line_of_sum};
 ghost use Rattle.cdb_front.specs.Devices.{WritesPart};
 ghost use Rattle.cdb_front.specs.Failures.{FailsOnce, WritesOnce};
-ghost use Rattle.cdb_front.specs.Generating.{Fills, made_status};
+ghost use Rattle.cdb_front.specs.Generating.{Fills};
+ghost use Rattle.cdb_front.specs.inside.Generating.{made_status};
 ghost use Rattle.cdb_front.specs.RunOutcome.{SaysStore};
 
 use crate::answer_text::{line, line_with, word};

@@ -1,7 +1,8 @@
 ghost use Rattle.std.specs.Prelude.{◌≡◌, ℕ, ◌+◌, ◌-◌, ◌^◌, ◌<◌, ◌≤◌, ◌↔◌, ◌⊎◌, ◌++◌, [], min, List, length, take, Some, IsErr, IfOk, OnOk, OnErr, Contains, MatchResult};
 ghost use Rattle.std.specs.Io.KnownBytes.{Appends};
 ghost use Rattle.cdb_model.specs.Causes.{HasCause};
-ghost use Rattle.cdb_front.specs.Devices.{WritesLess, Receipt};
+ghost use Rattle.cdb_front.specs.Devices.{Receipt};
+ghost use Rattle.cdb_front.specs.inside.Devices.{WritesLess};
 ghost use Rattle.cdb_front.specs.Failures.{FailsOnce};
 
 use crate::output::Output;

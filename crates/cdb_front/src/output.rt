@@ -1,7 +1,7 @@
 ghost use Rattle.std.specs.Prelude.{◌≡◌, ℕ, ◌≤◌, ◌<◌, List, length, take, Option, IfOk, MatchResult};
 ghost use Rattle.std.specs.Io.KnownBytes.{Appends};
 ghost use Rattle.cdb_model.specs.Causes.{HasCause};
-ghost use Rattle.cdb_front.specs.Devices.{WritesLess};
+ghost use Rattle.cdb_front.specs.inside.Devices.{WritesLess};
 ghost use Rattle.cdb_front.specs.Failures.{FailsOnce};
 
 use cdb_files::Failed;

@@ -1,10 +1,11 @@
 ghost use Rattle.std.specs.Prelude.{◌≡◌, ◌≢◌, [], ◌+◌, ◌<◌, ◌≤◌, ◌^◌, ℕ, Option, List, length};
 ghost use Rattle.std.specs.Io.KnownBytes.{Consumes, IsAtEnd};
 ghost use Rattle.cdb_model.specs.Causes.{Rose};
-ghost use Rattle.cdb_front.specs.Failures.{WritesOnce, ReadsOnce, WritesInTurn, ReadsInTurn};
+ghost use Rattle.cdb_front.specs.Failures.{WritesOnce, ReadsOnce};
+ghost use Rattle.cdb_front.specs.inside.Failures.{WritesInTurn, ReadsInTurn};
 ghost use Rattle.cdb_front.specs.RunProgress.{RunStart, base_of, Told};
 ghost use Rattle.cdb_front.specs.RunOutcome.{StopsScript, WasOpened};
-ghost use Rattle.cdb_front.specs.RunReading.{Reading, TakesTurn, TakesSome, StopsOpened};
+ghost use Rattle.cdb_front.specs.inside.RunReading.{Reading, TakesTurn, TakesSome, StopsOpened};
 
 use crate::exit_status::Status;
 use crate::fed::Fed;

@@ -13,7 +13,8 @@ ghost use Rattle.cdb_front.specs.AnswerMeanings.{meant, HasLength};
 ghost use Rattle.cdb_engine.specs.Tracks.{Leads};
 ghost use Rattle.cdb_front.specs.Failures.{FedOnce};
 ghost use Rattle.cdb_front.specs.Hearing.{IsEvent, IsAnswered, SaysAsked};
-ghost use Rattle.cdb_front.specs.RunProgress.{RunStart, Holds, base_of, Told, TellsFed, RunSoFar, SpeaksFed, TakesLine, TakesByte, TakesPiece};
+ghost use Rattle.cdb_front.specs.RunProgress.{RunStart, Holds, base_of, Told, RunSoFar, TakesLine, TakesPiece};
+ghost use Rattle.cdb_front.specs.inside.RunProgress.{TellsFed, SpeaksFed, TakesByte};
 ghost use Rattle.cdb_front.specs.Stepping.{Counts};
 
 use crate::answers::Answer;

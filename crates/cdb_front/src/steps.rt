@@ -9,7 +9,8 @@ ghost use Rattle.cdb_model.specs.Transitions.{StateIn, MakesIn, StepLineIn, Step
 ghost use Rattle.cdb_front.specs.AnswerMeanings.{meant, said_late, IsBare, IsQuiet};
 ghost use Rattle.cdb_engine.specs.Tracks.{Leads};
 ghost use Rattle.cdb_engine.specs.StoreAnswers.{AdvanceCause};
-ghost use Rattle.cdb_front.specs.Stepping.{Counts, step_end};
+ghost use Rattle.cdb_front.specs.Stepping.{Counts};
+ghost use Rattle.cdb_front.specs.inside.Stepping.{step_end};
 
 use crate::answers::Answer;
 use crate::store_calls::StoreCalls;

@@ -7,10 +7,11 @@ ghost use Rattle.cdb_model.specs.Images.{Base};
 ghost use Rattle.cdb_model.specs.Runs.{TurnIn};
 ghost use Rattle.cdb_model.specs.Stores.{Which, store_kind};
 ghost use Rattle.cdb_model.specs.Transitions.{StateIn};
-ghost use Rattle.cdb_engine.specs.StoreAnswers.{TriesIn, LeftIn, advance_answer, AdvanceCause};
+ghost use Rattle.cdb_engine.specs.StoreAnswers.{TriesIn, advance_answer, AdvanceCause};
+ghost use Rattle.cdb_engine.specs.inside.StoreAnswers.{LeftIn};
 ghost use Rattle.cdb_engine.specs.Tracks.{Leads};
 ghost use Rattle.cdb_front.specs.AnswerMeanings.{meant, HasLength};
-ghost use Rattle.cdb_front.specs.Hearing.{IsStepless};
+ghost use Rattle.cdb_front.specs.inside.Hearing.{IsStepless};
 ghost use Rattle.cdb_front.specs.RunProgress.{Holds};
 ghost use Rattle.cdb_front.specs.Stepping.{Counts};
 

@@ -21,8 +21,8 @@ use Rattle.cdb_source.specs.declared.kind.Kind.{Kind}
 use Rattle.cdb_source.specs.declared.kind.Kind.TheVariants.{Elevation, Material}
 use Rattle.cdb_source.specs.declared.head.SourceHead.{SourceHead}
 use Rattle.cdb_source.specs.declared.source.Source.{Source}
-use Rattle.cdb_touch.specs.Axis.{HasPlaceOnAxis, inset_of}
-use Rattle.cdb_touch.specs.Numbers.{tile_width, row_number, column_number, IsNumbered}
+use Rattle.cdb_touch.specs.inside.Axis.{HasPlaceOnAxis, inset_of}
+use Rattle.cdb_touch.specs.inside.Numbers.{tile_width, row_number, column_number, IsNumbered}
 use Rattle.cdb_touch.proofs.NumberLaws.{wide-extent}
 use Rattle.cdb_touch.proofs.ReachLaws.{reaches_to}
 use Rattle.cdb_touch.proofs.TileNumbers.{numbered_row, numbered-only}

@@ -14,7 +14,8 @@ use Rattle.cdb_manifest.specs.declared.record_error.RecordError.TheVariants.{Mem
 use Rattle.cdb_model.specs.Records.{record_text, record_front_text, heads_text, entries_text, entry_text}
 use Rattle.cdb_manifest.specs.Records.{record_bytes}
 use Rattle.cdb_manifest.specs.Entries.{Ascending, IsRecord}
-use Rattle.cdb_manifest.specs.Decoding.{to_head, to_entry, FirstBadField, IsFront, TellsHead, TellsEntry, RecordCause, GivesRecord}
+use Rattle.cdb_manifest.specs.Decoding.{to_head, to_entry, FirstBadField, RecordCause, GivesRecord}
+use Rattle.cdb_manifest.specs.inside.Decoding.{IsFront, TellsHead, TellsEntry}
 use Rattle.cdb_manifest.proofs.PlaceLaws.{length-heads_text, length-entries_text, same_number, all_heads, all_entries, no_bad}
 
 -- the tile of N46E007 at level -10

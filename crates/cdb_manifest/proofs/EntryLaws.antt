@@ -15,7 +15,7 @@ use Rattle.cdb_grid.proofs.Same.{same_geocell, same_tile}
 use Rattle.cdb_source.specs.Texts.{count_bytes}
 use Rattle.cdb_source.proofs.HeadLaws.{IsBytes, IsBytes-take, IsBytes-drop, cut, count_is, level_again}
 use Rattle.cdb_model.specs.Records.{family_number, entry_text}
-use Rattle.cdb_manifest.specs.Entries.{HasTileFields}
+use Rattle.cdb_manifest.specs.inside.Entries.{HasTileFields}
 
 same_family : (a b : Family) → family_number a ≡ family_number b → a ≡ b
 same_family Elev Elev e = refl

@@ -80,12 +80,6 @@ abbrev pub RecordCause : List ℕ → RecordError → Type 0
 RecordCause bytes Memory = Unit {0}
 RecordCause bytes (Bad place) = FirstBadField bytes place
 
--- the first numbers of a record: its version, and how many sources and tiles it has
-pub record IsFront (version sources tiles : ℕ) : Type 0 where
-  pub a_version : IsVersion version
-  pub a_count : IsSources sources
-  pub tiles_most : tiles ≤ 16384
-
 -- after so many heads of a text the next one isn't whole, or is none
 pub record IsBadHead (text : List ℕ) (count : ℕ) (place : ℕ) : Type 0 where
   pub heads : List SourceHead
@@ -94,10 +88,6 @@ pub record IsBadHead (text : List ℕ) (count : ℕ) (place : ℕ) : Type 0 wher
   pub few : length heads < count
   pub never : (head : SourceHead) (after : List ℕ) → rest ≡ head_text head ++ after → ⊥
   pub place_is : place ≡ 20 + 44 * length heads
-
-abbrev pub TellsHead : List ℕ → ℕ → RecordError → Type 0
-TellsHead text count Memory = Unit {0}
-TellsHead text count (Bad place) = IsBadHead text count place
 
 -- after so many entries of a text, which begin at a place, the next one isn't whole, is none, or doesn't come after them
 pub record IsBadEntry (text : List ℕ) (count : ℕ) (start : ℕ) (place : ℕ) : Type 0 where
@@ -108,10 +98,6 @@ pub record IsBadEntry (text : List ℕ) (count : ℕ) (start : ℕ) (place : ℕ
   pub ordered : Ascending tiles
   pub never : (tile : Tile) (after : List ℕ) → Ascending (tiles ++ tile ∷ []) → rest ≡ entry_text tile ++ after → ⊥
   pub place_is : place ≡ start + 16 * length tiles
-
-abbrev pub TellsEntry : List ℕ → ℕ → ℕ → RecordError → Type 0
-TellsEntry text count start Memory = Unit {0}
-TellsEntry text count start (Bad place) = IsBadEntry text count start place
 
 -- the bytes of a record give this record, unless memory ran out
 abbrev pub GivesRecord : Record → Result Record RecordError → Type 0

@@ -1,11 +1,9 @@
 -- The stated order of the tiles of a record, and the fields of a tile as they stand in its 16 bytes.
-use Rattle.std.specs.Prelude.{◌≡◌, ℕ, ◌≤◌, List, length, get_or, take, drop, AllPairs}
+use Rattle.std.specs.Prelude.{◌≡◌, ℕ, ◌≤◌, List, length, AllPairs}
 use Rattle.std.specs.declared.cmp.Ordering.TheVariants.{Less}
-use Rattle.std.specs.Int.{w8, w16, w32, from_be_bytes, cast_signed}
 use Rattle.cdb_grid.specs.Order.{tile_cmp}
 use Rattle.cdb_grid.specs.declared.tile.Tile.{Tile}
 use Rattle.cdb_source.specs.declared.head.SourceHead.{SourceHead}
-use Rattle.cdb_model.specs.Records.{family_number}
 
 -- each tile comes before all later ones
 abbrev pub Ascending : List Tile → Type 0
@@ -19,15 +17,3 @@ pub record IsRecord (version : ℕ) (heads : List SourceHead) (tiles : List Tile
   pub heads_most : length heads ≤ 64
   pub tiles_most : length tiles ≤ 16384
   pub ordered : Ascending tiles
-
--- each field of the tile stands at its place
-pub record HasTileFields (bytes : List ℕ) (tile : Tile) : Type 0 where
-  pub family : get_or bytes 0 0 ≡ family_number tile.family
-  pub level : cast_signed w8 (get_or bytes 1 0) ≡ tile.level.number
-  pub lat : cast_signed w8 (get_or bytes 2 0) ≡ tile.cell.lat
-  pub zero_3 : get_or bytes 3 0 ≡ 0
-  pub lon : cast_signed w16 (from_be_bytes w16 (take 2 (drop 4 bytes))) ≡ tile.cell.lon
-  pub zero_6 : get_or bytes 6 0 ≡ 0
-  pub zero_7 : get_or bytes 7 0 ≡ 0
-  pub up : from_be_bytes w32 (take 4 (drop 8 bytes)) ≡ tile.up
-  pub right : from_be_bytes w32 (take 4 (drop 12 bytes)) ≡ tile.right

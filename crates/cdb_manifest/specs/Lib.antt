@@ -3,3 +3,4 @@ pub mod Entries
 pub mod Decoding
 pub mod Places
 pub mod Lengths
+pub mod inside

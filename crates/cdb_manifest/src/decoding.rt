@@ -4,7 +4,8 @@ ghost use Rattle.cdb_manifest.specs.declared.record_.Record as records;
 ghost use Rattle.cdb_model.specs.Records.{record_front_text, heads_text, entries_text};
 ghost use Rattle.cdb_manifest.specs.Records.{record_bytes};
 ghost use Rattle.cdb_manifest.specs.Entries.{Ascending};
-ghost use Rattle.cdb_manifest.specs.Decoding.{IsFront, TellsHead, TellsEntry, RecordCause, GivesRecord};
+ghost use Rattle.cdb_manifest.specs.Decoding.{RecordCause, GivesRecord};
+ghost use Rattle.cdb_manifest.specs.inside.Decoding.{IsFront, TellsHead, TellsEntry};
 
 use crate::entry::entry_at;
 use crate::fields::{after_first, head_at, number_at};

@@ -4,7 +4,7 @@ ghost use Rattle.std.specs.Int.{w16, w32, from_be_bytes, cast_signed};
 ghost use Rattle.cdb_grid.specs.declared.family.Family as families;
 ghost use Rattle.cdb_grid.specs.declared.tile.Tile as tiles;
 ghost use Rattle.cdb_model.specs.Records.{family_number, entry_text};
-ghost use Rattle.cdb_manifest.specs.Entries.{HasTileFields};
+ghost use Rattle.cdb_manifest.specs.inside.Entries.{HasTileFields};
 
 use cdb_grid::{Family, Geocell, Level, Tile, tiles_across};
 

@@ -1,7 +1,8 @@
 //! The values of the four finer cells of a cell, and the most frequent of them.
 ghost use Rattle.std.specs.Prelude.{◌≡◌, ◌≤◌, [], ◌∷◌, filter_map, ◌&&◌, ◌||◌, nat_lt, nat_eq, int_lt};
 ghost use Rattle.cdb_source.specs.Values.{count_of, oftener, mode_of_four};
-ghost use Rattle.cdb_material.specs.Frequent.{values_of, more_frequent};
+ghost use Rattle.cdb_material.specs.Frequent.{more_frequent};
+ghost use Rattle.cdb_material.specs.inside.Frequent.{values_of};
 
 /// The values of the four finer cells of a cell, each where it has one.
 #[derive(Clone, Copy)]

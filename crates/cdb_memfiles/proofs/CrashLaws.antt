@@ -4,7 +4,8 @@ use Rattle.std.specs.Str.{bytes_eq}
 use Rattle.cdb_model.specs.Maps.{Text, Content, FileMap, put, folder_above}
 use Rattle.cdb_model.proofs.MapLaws.{put-same, put-other, same_text}
 use Rattle.cdb_files.specs.Disk.{State, Possible, Allows, IsImage, with_piece, settled, after_sync, added, after_create, after_append, after_sync_file, after_sync_dir, after_rename, after_remove, after_make_dir}
-use Rattle.cdb_memfiles.specs.Crash.{picked, half, first_possible, torn_possible, IsPicked, restored_map, or_else, only_made, IsSettled}
+use Rattle.cdb_memfiles.specs.Crash.{picked, half, first_possible, torn_possible, IsPicked, or_else, only_made, IsSettled}
+use Rattle.cdb_memfiles.specs.inside.Crash.{restored_map}
 use Rattle.cdb_memfiles.specs.History.{after_restore, blank_disk, apply, replay}
 use Rattle.cdb_memfiles.specs.declared.call.Call.{Call}
 use Rattle.cdb_memfiles.specs.declared.call.Call.TheVariants.{MakeDir, Create, Append, SyncFile, SyncDir, Rename, Remove, Restore}

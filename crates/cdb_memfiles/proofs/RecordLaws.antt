@@ -12,7 +12,7 @@ use Rattle.cdb_memfiles.specs.declared.call.Call.{Call}
 use Rattle.cdb_memfiles.specs.declared.call.Call.TheVariants.{Create, Append, Rename, Remove, Restore}
 use Rattle.cdb_memfiles.specs.Files.{ByPath, content, IsShort}
 use Rattle.cdb_memfiles.specs.History.{apply, replay, after_restore}
-use Rattle.cdb_memfiles.specs.HistoryLaws.{replay-push}
+use Rattle.cdb_memfiles.specs.inside.HistoryLaws.{replay-push}
 use Rattle.cdb_memfiles.specs.Record.{IsTied}
 use Rattle.cdb_memfiles.proofs.FileLaws.{absent_there}
 use mathlib.Core.Path.{fun_ext}

@@ -1,6 +1,6 @@
 -- What a crash leaves.
 use Rattle.std.specs.Prelude.{◌≡◌, ◌⊎◌, ◌/◌, [], ◌∷◌, length, take, None, Some}
-use Rattle.cdb_model.specs.Maps.{Text, Content, FileMap, put}
+use Rattle.cdb_model.specs.Maps.{Text, Content, FileMap}
 use Rattle.cdb_files.specs.Disk.{State, Possible}
 use Rattle.cdb_memfiles.specs.declared.pick.Pick.{Pick}
 use Rattle.cdb_memfiles.specs.declared.pick.Pick.TheVariants.{Newest, Oldest, Torn}
@@ -40,11 +40,6 @@ pub record IsCrashed (pick : Pick) (old new : State) : Type 0 where
 -- A disk with the made folders alone.
 abbrev pub only_made : State → State
 only_made s = record { present = λ _. None; may = λ _. Some (None ∷ []); made = s.made }
-
--- The files with one that a crash left, where it left one.
-abbrev pub restored_map : Text → Content → FileMap → FileMap
-restored_map path None m = m
-restored_map path (Some bytes) m = put m path (Some bytes)
 
 abbrev pub or_else : Content → Content → Content
 or_else None v = v

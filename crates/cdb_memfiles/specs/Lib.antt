@@ -1,11 +1,10 @@
 pub mod Files
-pub mod Calls
 pub mod History
 pub mod Schedule
 pub mod Shelf
-pub mod HistoryLaws
 pub mod Record
 pub mod MemDisk
 pub mod Fuse
 pub mod Crash
 pub mod Standing
+pub mod inside

@@ -10,7 +10,8 @@ use Rattle.cdb_grid.specs.declared.family.Family.TheVariants.{Elev, Low, High, M
 use Rattle.cdb_model.specs.Names.{Text, two, four, lat_text, lon_text, version_folder, dataset_folder, level_folder}
 use Rattle.cdb_names.specs.declared.folder.DatasetFolder.{DatasetFolder}
 use Rattle.cdb_names.specs.declared.folder.DatasetFolder.TheVariants.{Elevation, MinMaxElevation, RmTexture}
-use Rattle.cdb_names.specs.Fields.{after, two_at, four_at, version_of, version_at, fine_of, fine_folder_at, slashed, lat_at, lon_at, numbered_at, version_folder_at, lat_folder_at, lon_folder_at, dataset_folder_at, level_folder_at, up_folder_at}
+use Rattle.cdb_names.specs.Fields.{after, two_at, fine_of, lat_at, lon_at, numbered_at}
+use Rattle.cdb_names.specs.inside.Fields.{four_at, version_of, version_at, fine_folder_at, slashed, version_folder_at, lat_folder_at, lon_folder_at, dataset_folder_at, level_folder_at, up_folder_at}
 use Rattle.cdb_names.specs.Reading.{dataset_folder_of, level_folder_of}
 use Rattle.cdb_names.proofs.Tools.{both, some_if, chosen, then_some, map_some, some_is, pair_is}
 use Rattle.cdb_names.proofs.DigitLaws.{two_again, two_at_takes}

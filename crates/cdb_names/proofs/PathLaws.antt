@@ -5,7 +5,8 @@ use Rattle.std.specs.Fmt.{decimal}
 use Rattle.cdb_grid.specs.declared.tile.Tile.{Tile}
 use Rattle.cdb_model.specs.Names.{Text, VersionTile, lat_text, lon_text, version_folder, dataset_folder, level_folder, path_fields, spell, BeginsWith}
 use Rattle.cdb_names.specs.declared.folder.DatasetFolder.{DatasetFolder}
-use Rattle.cdb_names.specs.Fields.{after, across, version_folder_at, lat_folder_at, lon_folder_at, dataset_folder_at, level_folder_at, up_folder_at}
+use Rattle.cdb_names.specs.Fields.{after, across}
+use Rattle.cdb_names.specs.inside.Fields.{version_folder_at, lat_folder_at, lon_folder_at, dataset_folder_at, level_folder_at, up_folder_at}
 use Rattle.cdb_names.specs.Reading.{dataset_folder_of}
 use Rattle.cdb_names.proofs.Tools.{some_is}
 use Rattle.cdb_names.proofs.FieldLaws.{IsLon, IsLevel, after_takes, after_again}

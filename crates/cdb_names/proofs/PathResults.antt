@@ -15,8 +15,10 @@ use Rattle.cdb_names.specs.declared.folder.DatasetFolder.{DatasetFolder}
 use Rattle.cdb_names.specs.declared.folder.DatasetFolder.TheVariants.{Elevation, MinMaxElevation, RmTexture}
 use Rattle.cdb_names.specs.declared.folder.LevelFolder.{LevelFolder}
 use Rattle.cdb_names.specs.declared.folder.LevelFolder.TheVariants.{BelowZero, At}
-use Rattle.cdb_names.specs.Fields.{after, across, version_folder_at, lat_folder_at, lon_folder_at, dataset_folder_at, level_folder_at, up_folder_at}
-use Rattle.cdb_names.specs.Reading.{◌>>=◌, wrong_at, has_lat, has_lon, has_dataset, has_level, has_up, same_dataset, same_level, dataset_folder_of, level_folder_of, folders_at, name_at, path_at, Spelled, spelled_tile, IsReadAs}
+use Rattle.cdb_names.specs.Fields.{after, across}
+use Rattle.cdb_names.specs.inside.Fields.{version_folder_at, lat_folder_at, lon_folder_at, dataset_folder_at, level_folder_at, up_folder_at}
+use Rattle.cdb_names.specs.Reading.{◌>>=◌, wrong_at, has_lat, has_lon, has_dataset, has_level, has_up, same_dataset, same_level, dataset_folder_of, level_folder_of, name_at, Spelled, spelled_tile, IsReadAs}
+use Rattle.cdb_names.specs.inside.Reading.{folders_at, path_at}
 use Rattle.cdb_names.proofs.FieldLaws.{IsLevel, after_again}
 use Rattle.cdb_names.proofs.FolderLaws.{InFolder, IsFolder, some_level}
 use Rattle.cdb_names.proofs.NameLaws.{step, fields_in, name_says, name_again}

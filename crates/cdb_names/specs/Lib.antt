@@ -2,3 +2,4 @@ pub mod Fields
 pub mod Reading
 pub mod Places
 pub mod Lengths
+pub mod inside

@@ -2,8 +2,10 @@
 ghost use Rattle.std.specs.Prelude.{◌≡◌, ℕ, ◌+◌, ◌<◌, ◌≤◌, ◌^◌, ℤ, negsuc, pos, ◌≤ℤ◌, length, codes, option_map, IfSome, IfOk, IfErr, Ok};
 ghost use Rattle.cdb_grid.specs.declared.tile.Tile.{Tile};
 ghost use Rattle.cdb_model.specs.Names.{path, path_fields, FirstWrong};
-ghost use Rattle.cdb_names.specs.Fields.{after, four_at, version_of, version_at, version_folder_at, lat_folder_at, lon_folder_at, dataset_folder_at, fine_folder_at, level_folder_at, up_folder_at, across};
-ghost use Rattle.cdb_names.specs.Reading.{folders_at, path_at, spelled_tile, IsReadAs};
+ghost use Rattle.cdb_names.specs.Fields.{after, across};
+ghost use Rattle.cdb_names.specs.inside.Fields.{four_at, version_of, version_at, version_folder_at, lat_folder_at, lon_folder_at, dataset_folder_at, fine_folder_at, level_folder_at, up_folder_at};
+ghost use Rattle.cdb_names.specs.Reading.{spelled_tile, IsReadAs};
+ghost use Rattle.cdb_names.specs.inside.Reading.{folders_at, path_at};
 
 use crate::digits::read_two;
 use crate::fields::{read_after, read_latitude, read_longitude, read_numbered};
@@ -15,7 +17,7 @@ use cdb_model::NameError;
 /// The greatest version that a store can have.
 const MOST_VERSIONS: u32 = 4_096;
 
-#[tactic(auto, unfolding(crate::specs::Fields::four_at))]
+#[tactic(auto, unfolding(crate::specs::inside::Fields::four_at))]
 fn read_four(text: &[u8]) -> Option<(u32, &[u8])>
     ensures read { option_map (λ p. (p.0, p.1.now)) result ≡ four_at text.now }
     ensures near { IfSome result (λ p. length text.now ≡ length p.1.now + 4) }
@@ -35,7 +37,7 @@ fn version(high: u32, low: u32) -> Option<u32>
     (0 < version && version <= MOST_VERSIONS).then_some(version)
 }
 
-#[tactic(auto, unfolding(crate::specs::Fields::version_at))]
+#[tactic(auto, unfolding(crate::specs::inside::Fields::version_at))]
 fn read_version(text: &[u8]) -> Option<(u32, &[u8])>
     ensures read { option_map (λ p. (p.0, p.1.now)) result ≡ version_at text.now }
     ensures near { IfSome result (λ p. length text.now ≡ length p.1.now + 9) }
@@ -47,7 +49,7 @@ fn read_version(text: &[u8]) -> Option<(u32, &[u8])>
     Some((version, rest))
 }
 
-#[tactic(auto, unfolding(crate::specs::Fields::version_folder_at))]
+#[tactic(auto, unfolding(crate::specs::inside::Fields::version_folder_at))]
 fn read_version_folder(text: &[u8]) -> Option<(u32, &[u8])>
     ensures read { option_map (λ p. (p.0, p.1.now)) result ≡ version_folder_at text.now }
     ensures near { IfSome result (λ p. length text.now ≡ length p.1.now + 10) }
@@ -64,7 +66,7 @@ fn read_tiles_folder(text: &[u8]) -> Option<&[u8]>
     read_after(b"Tiles/", text)
 }
 
-#[tactic(auto, unfolding(crate::specs::Fields::lat_folder_at))]
+#[tactic(auto, unfolding(crate::specs::inside::Fields::lat_folder_at))]
 fn read_latitude_folder(text: &[u8]) -> Option<(i8, &[u8])>
     ensures read { option_map (λ p. (p.0, p.1.now)) result ≡ lat_folder_at text.now }
     ensures near { IfSome result (λ p. length text.now ≡ length p.1.now + 4) }
@@ -76,7 +78,7 @@ fn read_latitude_folder(text: &[u8]) -> Option<(i8, &[u8])>
     Some((lat, rest))
 }
 
-#[tactic(auto, unfolding(crate::specs::Fields::lon_folder_at))]
+#[tactic(auto, unfolding(crate::specs::inside::Fields::lon_folder_at))]
 fn read_longitude_folder(lat: i8, text: &[u8]) -> Option<(Geocell, &[u8])>
     requires south { negsuc 89 ≤ℤ lat }
     requires north { lat ≤ℤ pos 89 }
@@ -89,7 +91,7 @@ fn read_longitude_folder(lat: i8, text: &[u8]) -> Option<(Geocell, &[u8])>
     Some((cell, rest))
 }
 
-#[tactic(auto, unfolding(crate::specs::Fields::dataset_folder_at))]
+#[tactic(auto, unfolding(crate::specs::inside::Fields::dataset_folder_at))]
 fn read_dataset_folder(text: &[u8]) -> Option<(DatasetFolder, &[u8])>
     ensures read { option_map (λ p. (p.0, p.1.now)) result ≡ dataset_folder_at text.now }
     ensures near { IfSome result (λ p. length text.now ≤ length p.1.now + 20) }
@@ -109,7 +111,7 @@ fn read_dataset_folder(text: &[u8]) -> Option<(DatasetFolder, &[u8])>
     }
 }
 
-#[tactic(auto, unfolding(crate::specs::Fields::fine_folder_at))]
+#[tactic(auto, unfolding(crate::specs::inside::Fields::fine_folder_at))]
 fn read_fine_folder(text: &[u8]) -> Option<(Level, &[u8])>
     ensures read { option_map (λ p. (p.0.number, p.1.now)) result ≡ fine_folder_at text.now }
     ensures near { IfSome result (λ p. length text.now ≡ length p.1.now + 3) }
@@ -124,7 +126,7 @@ fn read_fine_folder(text: &[u8]) -> Option<(Level, &[u8])>
 }
 
 /// A level of the folder: -1 stands for all below 0.
-#[tactic(auto, unfolding(crate::specs::Fields::level_folder_at))]
+#[tactic(auto, unfolding(crate::specs::inside::Fields::level_folder_at))]
 fn read_level_folder(text: &[u8]) -> Option<(Level, &[u8])>
     ensures read { option_map (λ p. (p.0.number, p.1.now)) result ≡ level_folder_at text.now }
     ensures near { IfSome result (λ p. length text.now ≤ length p.1.now + 4) }
@@ -139,7 +141,7 @@ fn read_level_folder(text: &[u8]) -> Option<(Level, &[u8])>
     Some((level, rest))
 }
 
-#[tactic(auto, unfolding(crate::specs::Fields::up_folder_at))]
+#[tactic(auto, unfolding(crate::specs::inside::Fields::up_folder_at))]
 fn read_row_folder(level: Level, text: &[u8]) -> Option<(u32, &[u8])>
     ensures read { option_map (λ p. (p.0, p.1.now)) result ≡ up_folder_at (across level.number) text.now }
     ensures near { IfSome result (λ p. length text.now ≤ length p.1.now + 9) }
@@ -151,7 +153,7 @@ fn read_row_folder(level: Level, text: &[u8]) -> Option<(u32, &[u8])>
 }
 
 /// The version, what the folders say of the tile, and the file name.
-#[tactic(auto, unfolding(crate::specs::Reading::folders_at))]
+#[tactic(auto, unfolding(crate::specs::inside::Reading::folders_at))]
 fn read_folders(text: &[u8]) -> Result<(u32, Folder, &[u8]), NameError>
     ensures read { IsReadAs (λ p. (p.0, p.1, p.2.now)) result (folders_at text.now) }
     ensures near { IfOk result (λ p. length text.now ≤ length p.2.now + 100) }
@@ -174,7 +176,7 @@ fn read_folders(text: &[u8]) -> Result<(u32, Folder, &[u8]), NameError>
     Ok((version, folder, rest))
 }
 
-#[tactic(auto, unfolding(crate::specs::Reading::path_at))]
+#[tactic(auto, unfolding(crate::specs::inside::Reading::path_at))]
 fn read_whole_path(text: &[u8]) -> Result<(u32, Tile), NameError>
     ensures { IsReadAs (λ p. (p.0, spelled_tile p.1)) result (path_at text.now) }
 {

@@ -7,7 +7,7 @@ ghost use Rattle.std.specs.Vec.{vec_follows_range};
 ghost use Rattle.cdb_pool.specs.Frames.{contents, IsOut, IsFirstFree, AllOut, IsNew, IsLent, with_out};
 ghost use Rattle.cdb_pool.specs.Laws.{FramesAreApart, TakesOther};
 ghost use Rattle.cdb_pool.specs.Lending.{lends_frame};
-ghost use Rattle.cdb_pool.specs.Windows.{lends_part};
+ghost use Rattle.cdb_pool.specs.inside.Windows.{lends_part};
 
 use crate::frame::Frame;
 use std::alloc::{AllocError, Allocator, Global};

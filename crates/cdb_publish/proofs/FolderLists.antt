@@ -10,7 +10,7 @@ use Rattle.cdb_model.specs.Maps.{Text, folder_above}
 use Rattle.cdb_model.specs.Names.{source_path, path}
 use Rattle.cdb_model.proofs.MapLaws.{bytes_eq-same, bytes_eq-other, same_text}
 use Rattle.cdb_crash.specs.Plan.{each_once}
-use Rattle.cdb_publish.specs.Planning.{source_paths_from, paths_in, once_more}
+use Rattle.cdb_publish.specs.inside.Planning.{source_paths_from, paths_in, once_more}
 
 abbrev among : Text → List Text → Bool
 among y texts = list_any (λ other. bytes_eq other y) texts

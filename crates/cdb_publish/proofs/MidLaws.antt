@@ -32,10 +32,11 @@ use Rattle.cdb_cut.specs.Laws.{IsExtreme}
 use Rattle.cdb_chain.specs.Publications.{AreRecords}
 use Rattle.cdb_publish.specs.Fitting.{Plans}
 use Rattle.cdb_cut.specs.FinerTiles.{AreChildren, elevation_tile}
-use Rattle.cdb_publish.specs.TileFiles.{HasFilesFor}
+use Rattle.cdb_publish.specs.inside.TileFiles.{HasFilesFor}
 use Rattle.cdb_chain.specs.LookUps.{is_listed, found_in}
-use Rattle.cdb_publish.specs.LookUps.{look, look_before, IsNamed}
-use Rattle.cdb_publish.specs.Windows.{HasSources}
+use Rattle.cdb_publish.specs.LookUps.{look, look_before}
+use Rattle.cdb_publish.specs.inside.LookUps.{IsNamed}
+use Rattle.cdb_publish.specs.inside.Windows.{HasSources}
 use Rattle.cdb_publish.specs.declared.plan.Plan.{Plan}
 use Rattle.cdb_cut.proofs.FinerTiles.{parents}
 use Rattle.cdb_cut.proofs.FrameStarts.{extreme_kind}

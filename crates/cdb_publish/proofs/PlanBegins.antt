@@ -15,7 +15,8 @@ use Rattle.cdb_model.specs.Stands.{IsPublication, IsEntryCount, ArePublications}
 use Rattle.cdb_crash.specs.Plan.{File, source_files, tile_file, files_of, folders_of, each_once}
 use Rattle.cdb_publish.specs.Entries.{entries_in}
 use Rattle.cdb_chain.specs.Publications.{AreRecords}
-use Rattle.cdb_publish.specs.Planning.{IsAccepted, source_paths_from, paths_in}
+use Rattle.cdb_publish.specs.Planning.{IsAccepted}
+use Rattle.cdb_publish.specs.inside.Planning.{source_paths_from, paths_in}
 
 source_folders : (v from : ℕ) (x : List Source) → map (λ (file : File). folder_above file.path) (source_files v from x) ≡ map folder_above (source_paths_from v from (length x))
 source_folders v from [] = refl

@@ -11,9 +11,11 @@ use Rattle.cdb_model.specs.Maps.{FileMap, size_of}
 use Rattle.cdb_model.specs.Names.{source_path}
 use Rattle.cdb_manifest.specs.declared.record_.Record.{Record}
 use Rattle.cdb_cut.specs.Laws.{IsExtreme}
-use Rattle.cdb_publish.specs.LookUps.{look, look_before, needs_of, child_needs, IsNamed}
+use Rattle.cdb_publish.specs.LookUps.{look, look_before, needs_of, child_needs}
+use Rattle.cdb_publish.specs.inside.LookUps.{IsNamed}
 use Rattle.cdb_cut.specs.FinerTiles.{elevation_tile}
-use Rattle.cdb_publish.specs.TileFiles.{HasFilesFor, own_needs, extreme_needs, family_needs}
+use Rattle.cdb_publish.specs.TileFiles.{own_needs, extreme_needs, family_needs}
+use Rattle.cdb_publish.specs.inside.TileFiles.{HasFilesFor}
 use Rattle.cdb_publish.specs.Needs.{AreSized}
 use Rattle.cdb_publish.specs.Windows.{takes_rows, source_size, window_need, window_needs}
 use Rattle.cdb_publish.specs.declared.plan.Plan.{Plan}

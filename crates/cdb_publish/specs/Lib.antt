@@ -12,3 +12,4 @@ pub mod Reads
 pub mod Ready
 pub mod TileFiles
 pub mod Windows
+pub mod inside

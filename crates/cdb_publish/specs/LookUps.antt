@@ -1,14 +1,9 @@
 -- Where the newest file of a tile stands, and what stands there.
-use Rattle.std.specs.Prelude.{◌≡◌, ℕ, ◌-◌, Bool, true, false, if◌then◌else◌, ℤ, List, [], ◌∷◌}
+use Rattle.std.specs.Prelude.{ℕ, ◌-◌, if◌then◌else◌, List, [], ◌∷◌}
 use Rattle.std.specs.Prelude.{◌++◌, Option, Some, None}
 use Rattle.cdb_grid.specs.declared.tile.Tile.{Tile}
-use Rattle.cdb_source.specs.declared.source.Source.{Source}
-use Rattle.cdb_model.specs.Maps.{FileMap}
 use Rattle.cdb_model.specs.Names.{path}
-use Rattle.cdb_model.specs.TileFile.{tile_bytes}
 use Rattle.cdb_manifest.specs.declared.record_.Record.{Record}
-use Rattle.cdb_cut.specs.OneTile.{IsFrameOf}
-use Rattle.cdb_cut.specs.Laws.{NoneReaches}
 use Rattle.cdb_tiff_write.specs.Rasters.{tile_size}
 use Rattle.cdb_chain.specs.LookUps.{is_listed, found_in}
 use Rattle.cdb_publish.specs.Needs.{Need}
@@ -25,17 +20,6 @@ look p kept t = if is_listed p.record.tiles t then Some p.record.version else lo
 abbrev pub needs_of : Tile → Option ℕ → List Need
 needs_of t None = []
 needs_of t (Some version) = record { path = path version t; size = tile_size t } ∷ []
-
--- The file that a look-up named has the values that these sources give, or it named none and no source reaches the
--- tile.
-abbrev pub IsNamed : FileMap → List Source → Tile → Option ℕ → Type 0
-IsNamed m ss t None = NoneReaches ss t
-IsNamed m ss t (Some version) = m (path version t) ≡ Some (tile_bytes ss t)
-
--- What was read into a frame, where a file was named.
-abbrev pub IsReadFrame : List Source → Tile → List ℤ → Bool → Type 0
-IsReadFrame ss t frame true = IsFrameOf ss t frame
-IsReadFrame ss t frame false = NoneReaches ss t
 
 -- What is to be read of the finer tiles under a tile.
 abbrev pub child_needs : Plan → List Record → List Tile → List Need

@@ -1,30 +1,14 @@
 -- What the files of a disk give a tile of a publication.
-use Rattle.std.specs.Prelude.{◌≡◌, List, ◌++◌, All, Some}
+use Rattle.std.specs.Prelude.{List, ◌++◌, Some}
 use Rattle.cdb_grid.specs.declared.family.Family.{Family}
 use Rattle.cdb_grid.specs.declared.family.Family.TheVariants.{Elev, Low, High, Mat}
 use Rattle.cdb_grid.specs.declared.tile.Tile.{Tile}
-use Rattle.cdb_source.specs.declared.source.Source.{Source}
-use Rattle.cdb_model.specs.Publications.{heads_of}
-use Rattle.cdb_model.specs.Maps.{FileMap}
-use Rattle.cdb_model.specs.Names.{path}
-use Rattle.cdb_model.specs.TileFile.{tile_bytes}
 use Rattle.cdb_manifest.specs.declared.record_.Record.{Record}
-use Rattle.cdb_cut.specs.Laws.{IsExtreme}
 use Rattle.cdb_cut.specs.FinerTiles.{AreChildren, elevation_tile}
-use Rattle.cdb_publish.specs.LookUps.{look, look_before, needs_of, child_needs, IsNamed}
+use Rattle.cdb_publish.specs.LookUps.{look_before, needs_of, child_needs}
 use Rattle.cdb_publish.specs.Needs.{Need}
-use Rattle.cdb_publish.specs.Windows.{window_needs, HasSources}
+use Rattle.cdb_publish.specs.Windows.{window_needs}
 use Rattle.cdb_publish.specs.declared.plan.Plan.{Plan}
-
--- The files that a tile with these finer tiles is made from: the earlier sources are ss, and the new ones x.
-pub record HasFilesFor (p : Plan) (kept : List Record) (m : FileMap) (ss x : List Source) (t : Tile)
-    (children : List Tile) : Type 0 where
-  pub heads : p.record.heads ≡ heads_of x
-  pub children_named : All (λ c. IsNamed m (ss ++ x) c (look p kept c)) children
-  pub sources : HasSources m p.record.version x
-  pub older : IsNamed m ss t (look_before p kept t)
-  pub elevation : IsExtreme t.family → m (path p.record.version (elevation_tile t)) ≡ Some (tile_bytes (ss ++ x)
-      (elevation_tile t))
 
 -- What is to be read for a tile of elevations or of materials: its finer tiles, the new sources of its level, and the
 -- tile before it. For one of least or greatest elevations: the elevations of the same cells, and its finer tiles.

@@ -2,10 +2,7 @@
 use Rattle.std.specs.Prelude.{◌≡◌, ℕ, ◌+◌, ◌*◌, ◌≤◌, Bool, ◌&&◌, if◌then◌else◌, List, [], ◌∷◌, ◌++◌, slice_get, Some}
 use Rattle.std.specs.Ordering.{int_eq}
 use Rattle.cdb_grid.specs.declared.tile.Tile.{Tile}
-use Rattle.cdb_source.specs.Texts.{source_text}
 use Rattle.cdb_source.specs.declared.head.SourceHead.{SourceHead}
-use Rattle.cdb_source.specs.declared.source.Source.{Source}
-use Rattle.cdb_model.specs.Maps.{FileMap}
 use Rattle.cdb_model.specs.Names.{source_path}
 use Rattle.cdb_cut.specs.Window.{IsWindow, has_window}
 use Rattle.cdb_publish.specs.Needs.{Need}
@@ -40,8 +37,3 @@ HasRoomFor head t room = head.level.number ≡ t.level.number → (first count :
 -- And those of any of these sources.
 abbrev pub HasRoom : List SourceHead → Tile → ℕ → Type 0
 HasRoom heads t room = (k : ℕ) (head : SourceHead) → slice_get heads k ≡ Some head → HasRoomFor head t room
-
--- The sources of a version stand in their files.
-abbrev pub HasSources : FileMap → ℕ → List Source → Type 0
-HasSources m version x = (k : ℕ) (s : Source) → slice_get x k ≡ Some s
-    → m (source_path version (k + 1)) ≡ Some (source_text s)

@@ -2,7 +2,7 @@
 ghost use Rattle.std.specs.Prelude.{◌≡◌, ◌+◌, ◌≤◌, map, length, OnOk, IfOk};
 ghost use Rattle.cdb_model.specs.Maps.{folder_above};
 ghost use Rattle.cdb_crash.specs.Plan.{each_once};
-ghost use Rattle.cdb_publish.specs.Planning.{paths_in, once_more};
+ghost use Rattle.cdb_publish.specs.inside.Planning.{paths_in, once_more};
 
 use cdb_files::{Path, folder_above};
 use cdb_manifest::Record;

@@ -9,8 +9,10 @@ ghost use Rattle.cdb_source.specs.declared.source.Source as given;
 ghost use Rattle.cdb_files.specs.Moments.{Rests};
 ghost use Rattle.cdb_cut.specs.OneTile.{four_rule, IsFolded, IsWholeFolded};
 ghost use Rattle.cdb_publish.specs.Causes.{IsCaused};
-ghost use Rattle.cdb_cut.specs.FinerTiles.{IsPlain, AreChildren};
-ghost use Rattle.cdb_publish.specs.LookUps.{look, needs_of, child_needs, IsNamed};
+ghost use Rattle.cdb_cut.specs.FinerTiles.{AreChildren};
+ghost use Rattle.cdb_cut.specs.inside.FinerTiles.{IsPlain};
+ghost use Rattle.cdb_publish.specs.LookUps.{look, needs_of, child_needs};
+ghost use Rattle.cdb_publish.specs.inside.LookUps.{IsNamed};
 ghost use Rattle.cdb_publish.specs.Needs.{TellsSizes, IsDamage};
 
 use crate::errors::StepError;

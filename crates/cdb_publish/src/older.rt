@@ -6,7 +6,8 @@ ghost use Rattle.cdb_files.specs.Moments.{Rests};
 ghost use Rattle.cdb_cut.specs.Laws.{IsOwn};
 ghost use Rattle.cdb_cut.specs.OneTile.{IsFrameOf, IsPaintedBy};
 ghost use Rattle.cdb_publish.specs.Causes.{IsCaused};
-ghost use Rattle.cdb_publish.specs.LookUps.{look_before, needs_of, IsNamed};
+ghost use Rattle.cdb_publish.specs.LookUps.{look_before, needs_of};
+ghost use Rattle.cdb_publish.specs.inside.LookUps.{IsNamed};
 ghost use Rattle.cdb_publish.specs.Needs.{TellsSizes, IsDamage};
 
 use crate::errors::StepError;

@@ -5,7 +5,8 @@ ghost use Rattle.cdb_model.specs.Publications.{heads_of};
 ghost use Rattle.cdb_model.specs.Stands.{ArePublications};
 ghost use Rattle.cdb_chain.specs.Publications.{AreRecords};
 ghost use Rattle.cdb_publish.specs.Fitting.{Plans};
-ghost use Rattle.cdb_publish.specs.Planning.{RefusesPlan, IsAccepted, IsLight, IsTooHeavy};
+ghost use Rattle.cdb_publish.specs.Planning.{RefusesPlan, IsAccepted, IsLight};
+ghost use Rattle.cdb_publish.specs.inside.Planning.{IsTooHeavy};
 ghost use Rattle.cdb_source.specs.Reached.{IsTouched};
 
 use crate::errors::PlanError;

@@ -2,7 +2,7 @@ ghost use Rattle.std.specs.Prelude.{◌≡◌, OnOk};
 ghost use Rattle.cdb_model.specs.Causes.{HasCause};
 ghost use Rattle.cdb_files.specs.Moments.{AddsOnly};
 ghost use Rattle.cdb_crash.specs.Plan.{FileAction, after_step};
-ghost use Rattle.cdb_publish.specs.Making.{IsStepImage};
+ghost use Rattle.cdb_publish.specs.inside.Making.{IsStepImage};
 
 use cdb_files::{Disk, Failed, Path, folder_above, write_whole};
 

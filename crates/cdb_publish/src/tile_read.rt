@@ -9,7 +9,8 @@ ghost use Rattle.cdb_files.specs.Moments.{Rests};
 ghost use Rattle.cdb_cut.specs.OneTile.{IsFrameOf};
 ghost use Rattle.cdb_tiff_write.specs.Rasters.{tile_size};
 ghost use Rattle.cdb_publish.specs.Causes.{IsCaused};
-ghost use Rattle.cdb_publish.specs.LookUps.{needs_of, IsNamed, IsReadFrame};
+ghost use Rattle.cdb_publish.specs.LookUps.{needs_of};
+ghost use Rattle.cdb_publish.specs.inside.LookUps.{IsNamed, IsReadFrame};
 ghost use Rattle.cdb_publish.specs.Needs.{TellsSizes, IsDamage};
 
 use crate::errors::StepError;

@@ -7,7 +7,8 @@ ghost use Rattle.cdb_cut.specs.Laws.{IsOwn, IsExtreme};
 ghost use Rattle.cdb_cut.specs.OneTile.{IsFrameOf, IsFolded, no_values};
 ghost use Rattle.cdb_publish.specs.Causes.{IsCaused};
 ghost use Rattle.cdb_cut.specs.FinerTiles.{AreChildren, elevation_tile};
-ghost use Rattle.cdb_publish.specs.TileFiles.{HasFilesFor, own_needs, extreme_needs, family_needs};
+ghost use Rattle.cdb_publish.specs.TileFiles.{own_needs, extreme_needs, family_needs};
+ghost use Rattle.cdb_publish.specs.inside.TileFiles.{HasFilesFor};
 ghost use Rattle.cdb_publish.specs.Needs.{TellsSizes, IsDamage};
 ghost use Rattle.cdb_publish.specs.Windows.{HasRoom};
 

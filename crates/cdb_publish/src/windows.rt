@@ -12,7 +12,8 @@ ghost use Rattle.cdb_cut.specs.OneTile.{IsPaintedBy};
 ghost use Rattle.cdb_cut.specs.Window.{rows_of};
 ghost use Rattle.cdb_publish.specs.Causes.{IsCaused};
 ghost use Rattle.cdb_publish.specs.Needs.{TellsSizes, IsDamage};
-ghost use Rattle.cdb_publish.specs.Windows.{source_size, window_need, window_needs, HasRoomFor, HasRoom, HasSources};
+ghost use Rattle.cdb_publish.specs.Windows.{source_size, window_need, window_needs, HasRoomFor, HasRoom};
+ghost use Rattle.cdb_publish.specs.inside.Windows.{HasSources};
 
 use crate::errors::StepError;
 use crate::plan::Plan;

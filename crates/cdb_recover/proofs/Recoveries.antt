@@ -16,9 +16,10 @@ use Rattle.cdb_crash.proofs.HeadTexts.{head_text_tells}
 use Rattle.cdb_crash.proofs.Own as own
 use Rattle.cdb_crash.proofs.Paths.{not_new_head, at_most-none, at_most-wider}
 use Rattle.cdb_crash.proofs.Possible.{sync_dir-present}
-use Rattle.cdb_recover.specs.Answers.{IsAnswer, IsCleared, NamesNewest, NamesNone, HasNoLeftover, RemovesLeftovers, KeepsStore}
+use Rattle.cdb_recover.specs.Answers.{IsAnswer, NamesNewest, NamesNone, HasNoLeftover, RemovesLeftovers, KeepsStore}
+use Rattle.cdb_recover.specs.inside.Answers.{IsCleared}
 use Rattle.cdb_recover.proofs.Removals.{others_stay}
-use Rattle.cdb_recover.specs.Clearing.{RemovesOne, RemovesUnder}
+use Rattle.cdb_recover.specs.inside.Clearing.{RemovesOne, RemovesUnder}
 use Rattle.cdb_recover.specs.declared.recover_error.RecoverError.{RecoverError}
 use Rattle.cdb_recover.specs.declared.recover_error.RecoverError.TheVariants.{Fault, NotAStore}
 

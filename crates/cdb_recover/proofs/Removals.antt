@@ -14,7 +14,7 @@ use Rattle.cdb_crash.proofs.Clearing.{removed-at, removed-present}
 use Rattle.cdb_crash.proofs.Own as own
 use Rattle.cdb_crash.proofs.Paths.{one_less, at_most-wider, at_most-with, at_most-none}
 use Rattle.cdb_crash.proofs.Possible.{sync_dir-present}
-use Rattle.cdb_recover.specs.Clearing.{IsLeftUnder, RemovesOne, RemovesUnder}
+use Rattle.cdb_recover.specs.inside.Clearing.{IsLeftUnder, RemovesOne, RemovesUnder}
 
 -- ---- the moments of a removal that is synced
 module _ {D : Type 0} (clock : D → ℕ) (since : D → ℕ → FileMap → Type 0) (state : D → State) where

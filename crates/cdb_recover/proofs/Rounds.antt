@@ -11,7 +11,7 @@ use Rattle.cdb_crash.specs.Crash.{IsWhole, IsClearing}
 use Rattle.cdb_crash.specs.Leftovers.{IsOfVersion}
 use Rattle.cdb_crash.specs.Recovery.{after_removal}
 use Rattle.cdb_crash.proofs.Own as own
-use Rattle.cdb_recover.specs.Clearing.{IsLeftUnder, RemovesOne, RemovesUnder}
+use Rattle.cdb_recover.specs.inside.Clearing.{IsLeftUnder, RemovesOne, RemovesUnder}
 use Rattle.cdb_recover.proofs.Removals.{one_removed, one_back, none_removed, one_more}
 
 -- How many files are left, from a map to a later one, after so many removals.

@@ -21,19 +21,6 @@ abbrev pub NamesNone : Content → Type 0
 NamesNone None = ⊥
 NamesNone (Some bytes) = (newest : ℕ) → 1 ≤ newest → newest ≤ 4096 → bytes ≡ head_file_text newest → ⊥
 
--- What is read of the file.
-abbrev pub IsHeadRead : Content → Result ℕ RecoverError → Type 0
-IsHeadRead content (Ok newest) = NamesNewest content newest
-IsHeadRead content (Err (NotAStore version place)) = NamesNone content × (version ≡ 0) × (place ≡ 0)
-IsHeadRead content (Err Fault) = Unit {0}
-
--- Of the files under the version after the newest none is left, or there were more than 65,536.
-abbrev pub IsCleared : ℕ → FileMap → Result ℕ RecoverError → Type 0
-IsCleared newest m (Ok version) = (version ≡ newest) × HasAtMost 65536 (newest + 1) m
-IsCleared newest m (Err (NotAStore version place)) = (HasAtMost 65536 (newest + 1) m → ⊥) × (version ≡ newest + 1)
-    × (place ≡ 65536)
-IsCleared newest m (Err Fault) = Unit {0}
-
 -- The newest version is named, and there are more than 65,536 files under the next one.
 pub record HasTooMany (m : FileMap) (version place : ℕ) : Type 0 where
   pub newest : ℕ

@@ -5,7 +5,7 @@ ghost use Rattle.cdb_model.specs.Names.{new_head_path};
 ghost use Rattle.cdb_files.specs.Disk.{after_remove, after_sync_dir};
 ghost use Rattle.cdb_files.specs.Moments.{Elapses, IsBetween};
 ghost use Rattle.cdb_files.specs.Whole.{WritesOnly};
-ghost use Rattle.cdb_recover.specs.Clearing.{RemovesOne};
+ghost use Rattle.cdb_recover.specs.inside.Clearing.{RemovesOne};
 
 use crate::paths::{new_head, root};
 use cdb_files::{Disk, Failed};

@@ -7,7 +7,7 @@ ghost use Rattle.cdb_files.specs.Moments.{AddsOnly};
 ghost use Rattle.cdb_files.specs.Whole.{IsImageBut};
 ghost use Rattle.cdb_crash.specs.Crash.{IsWhole};
 ghost use Rattle.cdb_crash.specs.Recovery.{after_removal};
-ghost use Rattle.cdb_recover.specs.Clearing.{RemovesOne, RemovesUnder, TellsFew, TellsNone, Clears};
+ghost use Rattle.cdb_recover.specs.inside.Clearing.{RemovesOne, RemovesUnder, TellsFew, TellsNone, Clears};
 
 use cdb_files::{Disk, Failed, Path, folder_above};
 

@@ -2,7 +2,7 @@ ghost use Rattle.std.specs.Prelude.{◌≡◌, ◌≤◌, ◌+◌, Err, IfOk};
 ghost use Rattle.cdb_model.specs.Causes.{Rose};
 ghost use Rattle.cdb_model.specs.Names.{head_path};
 ghost use Rattle.cdb_files.specs.Moments.{Rests};
-ghost use Rattle.cdb_recover.specs.Answers.{IsHeadRead};
+ghost use Rattle.cdb_recover.specs.inside.Answers.{IsHeadRead};
 
 use crate::paths::head;
 use crate::recover_error::RecoverError;

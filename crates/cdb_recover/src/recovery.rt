@@ -6,8 +6,9 @@ ghost use Rattle.cdb_model.specs.Names.{version_folder};
 ghost use Rattle.cdb_model.specs.Stands.{Stands};
 ghost use Rattle.cdb_files.specs.Moments.{AddsOnly};
 ghost use Rattle.cdb_crash.specs.Crash.{IsWhole, IsEither, IsFaulted};
-ghost use Rattle.cdb_recover.specs.Clearing.{RemovesUnder};
-ghost use Rattle.cdb_recover.specs.Answers.{IsAnswer, IsCleared, IsRecovered, HasNoLeftover, RemovesLeftovers, KeepsStore};
+ghost use Rattle.cdb_recover.specs.inside.Clearing.{RemovesUnder};
+ghost use Rattle.cdb_recover.specs.Answers.{IsAnswer, IsRecovered, HasNoLeftover, RemovesLeftovers, KeepsStore};
+ghost use Rattle.cdb_recover.specs.inside.Answers.{IsCleared};
 
 use crate::calls::{remove_new_head, sync_root};
 use crate::clearing::{MOST, clear};

@@ -18,8 +18,8 @@ use Rattle.cdb_source.specs.Sample.{IsInBox, sample_at}
 use Rattle.cdb_source.specs.Offers.{over, best, newest}
 use Rattle.cdb_source.specs.Values.{Sampled, sampled, same_kind, offer, own, elevation, low, high, material}
 use Rattle.cdb_source.specs.Reached.{source_height}
-use Rattle.cdb_scratch.specs.Cells.{ReachesCell}
-use Rattle.cdb_scratch.specs.Summaries.{summary_kind, summary_of, own_of, combined}
+use Rattle.cdb_scratch.specs.inside.Cells.{ReachesCell}
+use Rattle.cdb_scratch.specs.inside.Summaries.{summary_kind, summary_of, own_of, combined}
 use Rattle.cdb_material.specs.declared.four.Four.{Four}
 use Rattle.cdb_scratch.specs.declared.cell.Summary.{Summary}
 use Rattle.cdb_scratch.specs.declared.cell.Summary.TheVariants.{Least, Greatest, MostFrequent}

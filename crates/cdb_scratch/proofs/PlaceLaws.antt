@@ -11,7 +11,7 @@ use Rattle.cdb_source.specs.declared.head.SourceHead.{SourceHead}
 use Rattle.cdb_source.specs.Sample.{IsBefore, IsInBox, corner_of, box_height, box_width}
 use Rattle.cdb_source.specs.Reached.{source_height}
 use Rattle.cdb_touch.proofs.AxisLaws.{IsFirst, first_least}
-use Rattle.cdb_scratch.specs.Cells.{HasMultiple, HasPlaceOnGrid, past_edge, place_of, inset_at, ReachesCell}
+use Rattle.cdb_scratch.specs.inside.Cells.{HasMultiple, HasPlaceOnGrid, past_edge, place_of, inset_at, ReachesCell}
 
 pub multiple_from_first : (step low high first : ℕ) → IsFirst step low first → first < high → HasMultiple step low high
 multiple_from_first step low high first f lt = record { at = first; multiple = f.multiple; from = f.above; below = lt }

@@ -12,7 +12,7 @@ use Rattle.cdb_source.specs.declared.head.SourceHead.{SourceHead}
 use Rattle.cdb_source.specs.declared.source.Source.{Source}
 use Rattle.cdb_source.specs.Reached.{Reaches, Reached}
 pub use Rattle.cdb_touch.proofs.ReachedLaws.{none_more, none_of_all, reached_at, none_reached}
-use Rattle.cdb_scratch.specs.Cells.{ReachesCell, CellReached}
+use Rattle.cdb_scratch.specs.inside.Cells.{ReachesCell, CellReached}
 
 read_at : (ss : List Source) (i : ℕ) (s : Source) → i < length ss → s ≡ get_or ss i s → slice_get ss i ≡ Some s
 read_at ss i s lt is = slice_get-get_or ss i s lt ∙ ap (λ (x : Source). Some x) (sym is)

@@ -3,7 +3,7 @@ ghost use Rattle.std.specs.Prelude.{◌≡◌, ◌≤◌, map};
 ghost use Rattle.cdb_grid.specs.Grid.{IsCorner};
 ghost use Rattle.cdb_source.specs.Values.{sampled, lesser, greater};
 ghost use Rattle.cdb_source.specs.Reached.{family_value};
-ghost use Rattle.cdb_scratch.specs.Summaries.{summary_kind, summary_of, own_of, combined};
+ghost use Rattle.cdb_scratch.specs.inside.Summaries.{summary_kind, summary_of, own_of, combined};
 
 use crate::elevation::elevation;
 use crate::material::own_material;

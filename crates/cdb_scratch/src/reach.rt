@@ -5,7 +5,7 @@ ghost use Rattle.cdb_grid.specs.Grid.{IsCorner};
 ghost use Rattle.cdb_source.specs.declared.kind.Kind.TheVariants.{Elevation, Material};
 ghost use Rattle.cdb_source.specs.Sample.{corner_of, box_height, box_width};
 ghost use Rattle.cdb_source.specs.Reached.{source_height};
-ghost use Rattle.cdb_scratch.specs.Cells.{HasMultiple, HasPlaceOnGrid, past_edge, inset_at, ReachesCell, CellReached};
+ghost use Rattle.cdb_scratch.specs.inside.Cells.{HasMultiple, HasPlaceOnGrid, past_edge, inset_at, ReachesCell, CellReached};
 
 use crate::places::width;
 use cdb_grid::units;

@@ -22,7 +22,8 @@ use Rattle.cdb_sessions.specs.declared.slot.Pair.{Pair}
 use Rattle.cdb_sessions.specs.declared.slot.Slot.{Slot}
 use Rattle.cdb_sessions.specs.Slots.{NumberedSlot, fresh, filled_slot, holds, is_pair, IsMoved, IsRenewed}
 use Rattle.cdb_sessions.specs.Cache.{Kept, file_length, kept_with, kept_one, kept_files, HasNone, IsMovedToFront}
-use Rattle.cdb_sessions.specs.Cache.{IsPooled, frames_of, FilesFirst, frame_of, numbered_frames, with_flags, IsCache}
+use Rattle.cdb_sessions.specs.Cache.{IsPooled, frames_of, FilesFirst, frame_of, numbered_frames, IsCache}
+use Rattle.cdb_sessions.specs.inside.Cache.{with_flags}
 
 -- ---- how many there are
 
@@ -90,7 +91,7 @@ module _ (pool : Frames ℕ) where
       ≡ kept_files pool us ++ (kept_one pool e ++ kept_files pool vs)
   kept_moved us e vs = flat_map-append (kept_one pool) us (e ∷ vs)
 
-  pub used_front : (pair : Pair) (frame : ℕ) (old new : List Entry) → IsMoved pair frame old new
+  pub used_front : (pair : Pair) (frame : ℕ) (old new : List NumberedSlot) → IsMoved pair frame old new
       → IsMovedToFront pair (kept_files pool old) (kept_files pool new)
   used_front pair frame old new m =
       let e : NumberedSlot = (m.number, filled_slot frame pair) in

@@ -5,7 +5,8 @@ use Rattle.std.proofs.Common.{inl, inr, add-one}
 use Rattle.std.proofs.lemmas.Bool.{cases_lt}
 use Rattle.cdb_pool.specs.Frames.{Frames, IsFirstFree, AllOut, with_out}
 use Rattle.cdb_pool.specs.declared.frame.Frame.{Frame}
-use Rattle.cdb_sessions.specs.Cache.{flags, with_flags, frame_of, numbered_frames}
+use Rattle.cdb_sessions.specs.Cache.{flags, frame_of, numbered_frames}
+use Rattle.cdb_sessions.specs.inside.Cache.{with_flags}
 
 front : (n k : ℕ) (ys : List Bool) → k < n → slice_get (replicate n true ++ ys) k ≡ Some true
 front zero k ys lt = absurd (omega arith)

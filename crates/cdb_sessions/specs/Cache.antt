@@ -1,19 +1,15 @@
 -- The files that are kept in memory.
 use Rattle.std.specs.Prelude.{◌≡◌, ℕ, zero, suc, ◌+◌, ◌-◌, ◌*◌, ◌/◌, ◌<◌, Bool, true, false, nat_eq, List, []}
-use Rattle.std.specs.Prelude.{◌∷◌, ◌++◌, map, take, length, replicate, Option, Some, None, Result, Ok, Err, ◌≢◌}
+use Rattle.std.specs.Prelude.{◌∷◌, ◌++◌, map, take, length, replicate, Option, Some, None, ◌≢◌}
 use Rattle.std.specs.List.{flat_map, AllByRecursion, IsDistinct}
 use Rattle.lru.specs.LruCache.{LruCache}
 use Rattle.cdb_grid.specs.Tiles.{tile_side}
 use Rattle.cdb_grid.specs.declared.tile.Tile.{Tile}
 use Rattle.cdb_model.specs.TileFile.{bits_of}
-use Rattle.cdb_model.specs.Maps.{Content, FileMap, size_of}
-use Rattle.cdb_files.specs.declared.whole.ReadSize.{ReadSize}
-use Rattle.cdb_files.specs.declared.whole.ReadSize.TheVariants.{Read, Other}
+use Rattle.cdb_model.specs.Maps.{FileMap, size_of}
 use Rattle.cdb_pool.specs.Frames.{Frames, contents}
 use Rattle.cdb_pool.specs.declared.frame.Frame.{Frame}
 use Rattle.cdb_model.specs.Names.{path}
-use Rattle.cdb_sessions.specs.declared.errors.TileError.{TileError}
-use Rattle.cdb_sessions.specs.declared.errors.TileError.TheVariants.{Fault, Unknown, Damaged}
 use Rattle.cdb_sessions.specs.declared.slot.Pair.{Pair}
 use Rattle.cdb_sessions.specs.declared.slot.Slot.{Slot}
 use Rattle.cdb_sessions.specs.Slots.{NumberedSlot}
@@ -60,11 +56,6 @@ pub record IsMovedToFront (pair : Pair) (old new : List Kept) : Type 0 where
   pub was : old ≡ before ++ record { pair = pair; bytes = bytes } ∷ after
   pub now : new ≡ record { pair = pair; bytes = bytes } ∷ (before ++ after)
 
--- whether a file is kept, and what becomes of the files then
-abbrev pub IsUsed : Pair → Cache → Cache → Bool → Type 0
-IsUsed pair old new true = IsMovedToFront pair old.kept new.kept
-IsUsed pair old new false = HasNone pair old.kept × (new ≡ old)
-
 -- ---- what holds of the parts
 
 -- eight frames, all out
@@ -105,14 +96,6 @@ pub record IsCache (pool : Frames ℕ) (frames : List Frame) (slots : LruCache �
 abbrev pub flags : ℕ → List Bool
 flags n = replicate n true ++ replicate (8 - n) false
 
-abbrev pub with_flags : Frames ℕ → ℕ → Frames ℕ
-with_flags pool n = record pool { out = flags n }
-
--- the whole file was read, or it has another size
-abbrev pub IsFileRead : Content → List ℕ → ReadSize → Type 0
-IsFileRead content bytes Read = content ≡ Some bytes
-IsFileRead content bytes (Other size) = size ≡ size_of content
-
 -- a file was read and is the first now; of seven files the last one went
 pub record IsKept (Tells : Type 0) (present : FileMap) (pair : Pair) (old new : List Kept) : Type 0 where
   pub bytes : List ℕ
@@ -125,11 +108,3 @@ pub record IsDamaged (Tells : Type 0) (present : FileMap) (pair : Pair) (expecte
   pub form : expected ≡ file_length pair.tile
   pub other : found ≢ Some expected
   pub told : Tells → found ≡ size_of (present (path pair.version pair.tile))
-
--- what becomes of the files that are kept where one is read
-abbrev pub IsReadFrom : Type 0 → FileMap → Pair → List Kept → List Kept → Result Unit TileError → Type 0
-IsReadFrom Tells present pair old new (Ok _) = IsKept Tells present pair old new
-IsReadFrom Tells present pair old new (Err Fault) = new ≡ old
-IsReadFrom Tells present pair old new (Err (Damaged expected found)) =
-    IsDamaged Tells present pair expected found × (new ≡ old)
-IsReadFrom Tells present pair old new (Err Unknown) = ⊥

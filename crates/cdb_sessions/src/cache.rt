@@ -4,7 +4,8 @@ ghost use Rattle.std.specs.Prelude.{option_map, slice_get, IfOk, OnOk};
 ghost use Rattle.cdb_model.specs.Causes.{HasCause, Rose};
 ghost use Rattle.cdb_files.specs.Moments.{Rests};
 ghost use Rattle.cdb_files.specs.Whole.{IsOtherThan};
-ghost use Rattle.cdb_sessions.specs.Cache.{Kept, file_length, IsUsed, IsFileRead, IsReadFrom, numbered_frames, with_flags};
+ghost use Rattle.cdb_sessions.specs.Cache.{Kept, file_length, numbered_frames};
+ghost use Rattle.cdb_sessions.specs.inside.Cache.{IsUsed, IsFileRead, IsReadFrom, with_flags};
 
 use crate::errors::TileError;
 use crate::file::file_length;

@@ -18,7 +18,8 @@ use Rattle.cdb_source.specs.declared.head.SourceHead.{SourceHead}
 use Rattle.cdb_source.specs.declared.source.Source.{Source}
 use Rattle.cdb_source.specs.Posts.{IsPost}
 use Rattle.cdb_source.specs.Texts.{source_first_bytes, head_text, source_front_text, post_bytes, posts_text, source_text}
-use Rattle.cdb_source.specs.Decoding.{post_count, HasOtherFirstBytes, HasCutPosts, HasBadPost, HasBytesLeft, IsBadPost, FirstBadPart, SourceCause, TellsPost, GivesSource, first_bytes_bad, head_bad, posts_cut, post_bad, bytes_left}
+use Rattle.cdb_source.specs.Decoding.{post_count, HasOtherFirstBytes, HasCutPosts, HasBadPost, HasBytesLeft, IsBadPost, FirstBadPart, SourceCause, GivesSource, first_bytes_bad, head_bad, posts_cut, post_bad, bytes_left}
+use Rattle.cdb_source.specs.inside.Decoding.{TellsPost}
 use Rattle.cdb_source.specs.declared.decode_error.DecodeError.{DecodeError}
 use Rattle.cdb_source.specs.declared.decode_error.DecodeError.TheVariants.{Memory, Bad}
 use Rattle.cdb_source.proofs.HeadLaws.{one_head, has_head}

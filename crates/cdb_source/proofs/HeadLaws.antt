@@ -18,7 +18,7 @@ use Rattle.cdb_source.specs.declared.kind.Kind.TheVariants.{Elevation, Material}
 use Rattle.cdb_source.specs.declared.head.SourceHead.{SourceHead}
 use Rattle.cdb_source.specs.Texts.{source_first_bytes, kind_number, kind_and_level, count_bytes, arc_bytes, head_text, source_front_text}
 use Rattle.cdb_source.specs.Made.{HasFields}
-use Rattle.cdb_source.specs.HeadFields.{count_from, units_from, HasHead}
+use Rattle.cdb_source.specs.inside.HeadFields.{count_from, units_from, HasHead}
 
 -- ---- heads by their fields
 

@@ -41,11 +41,6 @@ pub record IsBadPost (kind : Kind) (text : List ℕ) (count : ℕ) : Type 0 wher
   pub a_number : IsPost Elevation number
   pub refused : IsPost kind number → ⊥
 
--- a text is that of these posts, all of which the kind allows
-pub record ReadsPosts (kind : Kind) (text : List ℕ) (posts : List ℤ) : Type 0 where
-  pub spelled : text ≡ posts_text posts
-  pub allowed : All (IsPost kind) posts
-
 -- after a head the posts are whole, and the one at a place isn't of the kind, while those before it are
 pub record HasBadPost (bytes : List ℕ) (place : ℕ) : Type 0 where
   pub head : SourceHead
@@ -77,11 +72,6 @@ pub data FirstBadPart (bytes : List ℕ) (place : ℕ) : Type 0 where
 abbrev pub SourceCause : List ℕ → DecodeError → Type 0
 SourceCause bytes Memory = Unit {0}
 SourceCause bytes (Bad place) = FirstBadPart bytes place
-
--- what an error says of a text of so many posts
-abbrev pub TellsPost : Kind → List ℕ → ℕ → DecodeError → Type 0
-TellsPost kind text count Memory = Unit {0}
-TellsPost kind text count (Bad place) = (k : ℕ) × ((k < count) × IsBadPost kind text k × (place ≡ 52 + 2 * k))
 
 -- the bytes of a source give this source, unless memory ran out
 abbrev pub GivesSource : Source → Result Source DecodeError → Type 0

@@ -6,8 +6,9 @@ ghost use Rattle.cdb_source.specs.declared.kind.Kind as kinds;
 ghost use Rattle.cdb_source.specs.declared.source.Source as sources;
 ghost use Rattle.cdb_source.specs.Posts.{IsPost};
 ghost use Rattle.cdb_source.specs.Texts.{source_first_bytes, kind_number, source_front_text, post_bytes, posts_text, source_text};
-ghost use Rattle.cdb_source.specs.HeadFields.{count_from, units_from, HasHead};
-ghost use Rattle.cdb_source.specs.Decoding.{IsBadPost, ReadsPosts, TellsPost, SourceCause, GivesSource};
+ghost use Rattle.cdb_source.specs.inside.HeadFields.{count_from, units_from, HasHead};
+ghost use Rattle.cdb_source.specs.Decoding.{IsBadPost, SourceCause, GivesSource};
+ghost use Rattle.cdb_source.specs.inside.Decoding.{ReadsPosts, TellsPost};
 
 use crate::decode_error::DecodeError;
 use crate::encoding::FIRST_BYTES;

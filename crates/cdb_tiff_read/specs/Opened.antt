@@ -1,11 +1,9 @@
 -- An image that was opened from the bytes of a TIFF file.
-use Rattle.std.specs.Prelude.{◌≡◌, ◌==◌, ℕ, ℤ, ◌+◌, ◌*◌, ◌/◌, ◌<◌, Bool, Some, None, List, length, drop, slice_get}
+use Rattle.std.specs.Prelude.{◌≡◌, ◌==◌, Some, None, length}
 use Rattle.cdb_tiff_base.specs.Numbers.{Bytes}
 use Rattle.cdb_tiff_base.specs.Directory.{order_of, tag_entry}
-use Rattle.cdb_tiff_base.specs.Pixels.{sample}
 use Rattle.cdb_tiff_base.specs.Strips.{image_width, image_length, bits_per_sample, rows_per_strip, sample_format}
 use Rattle.cdb_tiff_base.specs.Causes.{cause_of}
-use Rattle.cdb_tiff_base.specs.declared.order.Order.{Order}
 use Rattle.cdb_tiff_read.specs.declared.image.Image.{Image}
 
 -- the image's fields are those that the tags of the file give it
@@ -22,10 +20,3 @@ pub record HasTagFields (b : Bytes) (image : Image) : Type 0 where
 pub record IsOpened (b : Bytes) (image : Image) : Type 0 where
   pub accepted : cause_of b ≡ None
   pub fields : HasTagFields b image
-
--- a row has the samples of one form that stand one after another from a byte place on
-pub record HasSamples (order : Order) (bits : ℕ) (signed : Bool) (b : Bytes) (place : ℕ) (old new : List ℤ)
-    : Type 0 where
-  pub size : length new ≡ length old
-  pub each : (c : ℕ) → c < length old →
-      slice_get new c ≡ Some (sample order bits signed (drop (place + c * (bits / 8)) b))

@@ -3,7 +3,8 @@
 ghost use Rattle.std.specs.Prelude.{◌≡◌, ◌+◌, ◌*◌, ◌/◌, ◌<◌, ◌≤◌, EachIndex, Some, false, length, slice_get, true};
 ghost use Rattle.cdb_tiff_base.specs.Pixels.{pixel, row_place, sample};
 ghost use Rattle.cdb_tiff_base.specs.declared.order.Order.TheVariants.{Big, Little};
-ghost use Rattle.cdb_tiff_read.specs.Opened.{IsOpened, HasSamples};
+ghost use Rattle.cdb_tiff_read.specs.Opened.{IsOpened};
+ghost use Rattle.cdb_tiff_read.specs.inside.Opened.{HasSamples};
 
 use crate::image::Image;
 use crate::strips::offset_of;

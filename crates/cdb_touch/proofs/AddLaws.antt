@@ -8,8 +8,8 @@ use Rattle.cdb_grid.specs.declared.tile.Tile.{Tile}
 use Rattle.cdb_source.specs.declared.head.SourceHead.{SourceHead}
 use Rattle.cdb_source.specs.Reached.{Reaches, Reached}
 use Rattle.cdb_touch.specs.declared.axis.Run.{Run}
-use Rattle.cdb_touch.specs.Numbers.{row_number, column_number, IsNumbered, IsInRow, IsInRectangle}
-use Rattle.cdb_touch.specs.Touched.{AddsTiles}
+use Rattle.cdb_touch.specs.inside.Numbers.{row_number, column_number, IsNumbered, IsInRow, IsInRectangle}
+use Rattle.cdb_touch.specs.inside.Touched.{AddsTiles}
 use Rattle.cdb_touch.proofs.TileNumbers.{numbered-only}
 
 pub Adds-none : (M : Tile → Type 0) (xs : List Tile) → ((t : Tile) → M t → ⊥) → AddsTiles M xs xs

@@ -9,7 +9,7 @@ use Rattle.std.proofs.lemmas.Nat.Gcd.{dvd_trans}
 use Rattle.cdb_grid.proofs.GridLaws.{next_multiple}
 use Rattle.cdb_source.specs.declared.kind.Kind.{Kind}
 use Rattle.cdb_source.specs.declared.kind.Kind.TheVariants.{Elevation, Material}
-use Rattle.cdb_touch.specs.Axis.{HasPlaceOnAxis, HoldsMultiple, inset_of}
+use Rattle.cdb_touch.specs.inside.Axis.{HasPlaceOnAxis, HoldsMultiple, inset_of}
 
 -- the first multiple of a step that isn't below a number
 pub record IsFirst (step low first : ℕ) : Type 0 where

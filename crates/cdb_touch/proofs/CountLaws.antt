@@ -6,7 +6,7 @@ use Rattle.cdb_grid.specs.declared.tile.Tile.{Tile}
 use Rattle.cdb_source.specs.declared.head.SourceHead.{SourceHead}
 use Rattle.cdb_source.specs.Reached.{Reaches, IsReachCount, IsLoad}
 use Rattle.cdb_source.proofs.OnceLaws.{not_in_none, in_one, once_none, once_cons, once_append, length_le}
-use Rattle.cdb_touch.specs.Count.{HasCount}
+use Rattle.cdb_touch.specs.inside.Count.{HasCount}
 
 -- a set has one count
 pub HasCount-only : {M : Tile → Type 0} (m n : ℕ) → HasCount M m → HasCount M n → m ≡ n

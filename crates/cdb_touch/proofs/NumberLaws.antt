@@ -13,7 +13,7 @@ use Rattle.cdb_grid.specs.declared.tile.Tile.{Tile}
 use Rattle.cdb_grid.proofs.UnitLaws.{width-dvd, all_rows, tiles-pos}
 use Rattle.cdb_grid.proofs.GridLaws.{next_multiple, quotient_of}
 use Rattle.cdb_grid.proofs.TileLaws.{row_of-below, column_of-below, tile_height-most, tile_in_cell}
-use Rattle.cdb_touch.specs.Numbers.{tile_width, row_number, column_number}
+use Rattle.cdb_touch.specs.inside.Numbers.{tile_width, row_number, column_number}
 
 pub tiles_shifted : (h : ℕ) → (1 * 2 ^ (24 - h)) % 2 ^ 64 ≡ tiles_of h
 tiles_shifted h = let lt : 24 - h < 64 = omega arith in one_shl (24 - h) 64 lt

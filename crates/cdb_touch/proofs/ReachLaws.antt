@@ -17,9 +17,9 @@ use Rattle.cdb_source.specs.declared.kind.Kind.{Kind}
 use Rattle.cdb_source.specs.declared.head.SourceHead.{SourceHead}
 use Rattle.cdb_source.specs.Sample.{corner_of, box_height, box_width, IsBefore}
 use Rattle.cdb_source.specs.Reached.{kind_of, source_height, Reaches}
-use Rattle.cdb_touch.specs.Axis.{HasPlaceOnAxis, inset_of}
-use Rattle.cdb_touch.specs.Numbers.{tile_width, row_number, column_number}
-use Rattle.cdb_touch.specs.Reach.{HasRow, HasColumn}
+use Rattle.cdb_touch.specs.inside.Axis.{HasPlaceOnAxis, inset_of}
+use Rattle.cdb_touch.specs.inside.Numbers.{tile_width, row_number, column_number}
+use Rattle.cdb_touch.specs.inside.Reach.{HasRow, HasColumn}
 use Rattle.cdb_touch.proofs.AxisLaws.{inset-below, corner_in_part}
 use Rattle.cdb_touch.proofs.NumberLaws.{InNumbers, numbers_from_tile, tile_from_numbers, width_in_row, on_globe}
 

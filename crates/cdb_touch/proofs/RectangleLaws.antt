@@ -11,8 +11,8 @@ use Rattle.cdb_grid.specs.declared.tile.Tile.{Tile}
 use Rattle.cdb_source.specs.declared.head.SourceHead.{SourceHead}
 use Rattle.cdb_source.specs.Reached.{kind_of, source_height, Reaches}
 use Rattle.cdb_touch.specs.declared.axis.Run.{Run}
-use Rattle.cdb_touch.specs.Numbers.{tile_width, row_number, column_number, IsInRectangle}
-use Rattle.cdb_touch.specs.Reach.{HasRow, HasColumn, IsOfRow}
+use Rattle.cdb_touch.specs.inside.Numbers.{tile_width, row_number, column_number, IsInRectangle}
+use Rattle.cdb_touch.specs.inside.Reach.{HasRow, HasColumn, IsOfRow}
 use Rattle.cdb_touch.proofs.NumberLaws.{row_number-below, column_number-below}
 use Rattle.cdb_touch.proofs.ReachLaws.{reaches_to, reaches_from}
 

@@ -15,8 +15,8 @@ use Rattle.cdb_grid.proofs.UnitLaws.{width-pos, width-dvd, tiles-pos, height-sam
 use Rattle.cdb_grid.proofs.Same.{same_geocell, same_tile}
 use Rattle.cdb_grid.proofs.TileLaws.{row_of-same, column_of-same}
 use Rattle.cdb_touch.specs.declared.axis.Run.{Run}
-use Rattle.cdb_touch.specs.Count.{HasCount}
-use Rattle.cdb_touch.specs.Numbers.{tile_width, row_number, column_number, IsNumbered, IsInRectangle}
+use Rattle.cdb_touch.specs.inside.Count.{HasCount}
+use Rattle.cdb_touch.specs.inside.Numbers.{tile_width, row_number, column_number, IsNumbered, IsInRectangle}
 use Rattle.cdb_touch.proofs.NumberLaws.{column-width}
 use Rattle.cdb_touch.proofs.CountLaws.{HasCount-none, HasCount-one, HasCount-iff, HasCount-union, HasCount-same}
 

@@ -1,5 +1,2 @@
-pub mod Axis
-pub mod Numbers
-pub mod Reach
-pub mod Count
 pub mod Touched
+pub mod inside

@@ -1,5 +1,5 @@
 -- Lists of touched tiles.
-use Rattle.std.specs.Prelude.{◌≡◌, ◌↔◌, ◌⊎◌, List, Contains, AllPairs}
+use Rattle.std.specs.Prelude.{◌≡◌, List, AllPairs}
 use Rattle.std.specs.declared.cmp.Ordering.TheVariants.{Less}
 use Rattle.cdb_grid.specs.Order.{tile_cmp}
 use Rattle.cdb_grid.specs.declared.tile.Tile.{Tile}
@@ -11,10 +11,6 @@ use Rattle.cdb_touch.specs.declared.touch.TouchError.TheVariants.{Memory, Large}
 -- each tile of a list stands before all later ones in the stated order
 abbrev pub IsAscending : List Tile → Type 0
 IsAscending tiles = AllPairs (λ s t. tile_cmp s t ≡ Less) tiles
-
--- a list has the tiles of another and those of a set
-pub record AddsTiles (Member : Tile → Type 0) (before after : List Tile) : Type 0 where
-  pub each : (t : Tile) → Contains after t ↔ (Contains before t ⊎ Member t)
 
 -- where an error tells a load, it is the load of the sources
 abbrev pub TellsLoad : List SourceHead → TouchError → Type 0

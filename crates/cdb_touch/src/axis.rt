@@ -1,7 +1,7 @@
 //! One axis of the globe, in arc units from its beginning, cut into parts of one extent.
 ghost use Prim.Native.Nat.{◌∣◌};
 ghost use Rattle.std.specs.Prelude.{◌≡◌, ℕ, ◌↔◌, ◌+◌, ◌-◌, ◌*◌, ◌^◌, ◌≤◌, ◌<◌, IsTrue};
-ghost use Rattle.cdb_touch.specs.Axis.{HasPlaceOnAxis, HoldsMultiple, inset_of};
+ghost use Rattle.cdb_touch.specs.inside.Axis.{HasPlaceOnAxis, HoldsMultiple, inset_of};
 
 use cdb_source::Kind;
 

@@ -2,9 +2,9 @@
 ghost use Rattle.std.specs.Prelude.{◌≡◌, ◌+◌, ◌*◌, ◌/◌, ◌≤◌, ◌<◌, OnOk};
 ghost use Rattle.cdb_grid.specs.Units.{tiles_of, width_at};
 ghost use Rattle.cdb_source.specs.Reached.{kind_of, source_height, Reaches, Reached};
-ghost use Rattle.cdb_touch.specs.Numbers.{IsInRow, IsInRectangle};
-ghost use Rattle.cdb_touch.specs.Reach.{IsOfFamily, IsOfHeight};
-ghost use Rattle.cdb_touch.specs.Touched.{AddsTiles};
+ghost use Rattle.cdb_touch.specs.inside.Numbers.{IsInRow, IsInRectangle};
+ghost use Rattle.cdb_touch.specs.inside.Reach.{IsOfFamily, IsOfHeight};
+ghost use Rattle.cdb_touch.specs.inside.Touched.{AddsTiles};
 
 use crate::axis::Run;
 use crate::heights::COARSEST;

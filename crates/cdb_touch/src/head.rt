@@ -2,7 +2,7 @@
 ghost use Rattle.std.specs.Prelude.{◌≡◌, ℕ, ◌↔◌, ◌+◌, ◌*◌, ◌/◌, ◌≤◌, ◌<◌};
 ghost use Rattle.cdb_grid.specs.Units.{tiles_of, width_at};
 ghost use Rattle.cdb_source.specs.Reached.{source_height};
-ghost use Rattle.cdb_touch.specs.Reach.{HasRow, HasColumn};
+ghost use Rattle.cdb_touch.specs.inside.Reach.{HasRow, HasColumn};
 
 use crate::axis::{Run, with_places};
 use crate::heights;

@@ -3,8 +3,8 @@ ghost use Rattle.std.specs.Prelude.{◌≡◌, ℕ, ◌*◌, ◌^◌, ◌≤◌,
 ghost use Rattle.cdb_grid.specs.Units.{tiles_of};
 ghost use Rattle.cdb_grid.specs.declared.family.Family.{Family};
 ghost use Rattle.cdb_source.specs.Reached.{kind_of, source_height, IsReachCount, IsLoad};
-ghost use Rattle.cdb_touch.specs.Count.{HasCount};
-ghost use Rattle.cdb_touch.specs.Reach.{IsOfFamily, IsOfHeight, IsOfRow};
+ghost use Rattle.cdb_touch.specs.inside.Count.{HasCount};
+ghost use Rattle.cdb_touch.specs.inside.Reach.{IsOfFamily, IsOfHeight, IsOfRow};
 
 use crate::heights::COARSEST;
 use crate::rectangle::{geocell_rows, reached_in_row};

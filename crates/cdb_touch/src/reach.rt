@@ -2,8 +2,8 @@
 ghost use Rattle.std.specs.Prelude.{◌≡◌, ◌↔◌, ◌≤◌, IsTrue, map};
 ghost use Rattle.cdb_grid.specs.Tiles.{tile_height};
 ghost use Rattle.cdb_source.specs.Reached.{source_height, Reaches, Reached};
-ghost use Rattle.cdb_touch.specs.Numbers.{tile_width, row_number, column_number};
-ghost use Rattle.cdb_touch.specs.Reach.{HasRow, HasColumn};
+ghost use Rattle.cdb_touch.specs.inside.Numbers.{tile_width, row_number, column_number};
+ghost use Rattle.cdb_touch.specs.inside.Reach.{HasRow, HasColumn};
 
 use crate::head::{columns, rows};
 use crate::heights;

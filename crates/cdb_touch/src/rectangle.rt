@@ -5,8 +5,8 @@ ghost use Rattle.cdb_grid.specs.Tiles.{tile_height};
 ghost use Rattle.cdb_grid.specs.declared.family.Family.{Family};
 ghost use Rattle.cdb_grid.specs.declared.tile.Tile.{Tile};
 ghost use Rattle.cdb_source.specs.Reached.{kind_of, source_height, Reaches};
-ghost use Rattle.cdb_touch.specs.Numbers.{IsInRectangle};
-ghost use Rattle.cdb_touch.specs.Reach.{IsOfRow};
+ghost use Rattle.cdb_touch.specs.inside.Numbers.{IsInRectangle};
+ghost use Rattle.cdb_touch.specs.inside.Reach.{IsOfRow};
 
 use crate::axis::Run;
 use crate::head::{columns, rows};

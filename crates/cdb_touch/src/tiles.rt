@@ -1,7 +1,7 @@
 //! Tiles by their numbers.
 ghost use Rattle.std.specs.Prelude.{◌*◌, ◌/◌, ◌≤◌, ◌<◌};
 ghost use Rattle.cdb_grid.specs.Units.{tiles_of, width_at};
-ghost use Rattle.cdb_touch.specs.Numbers.{IsNumbered};
+ghost use Rattle.cdb_touch.specs.inside.Numbers.{IsNumbered};
 
 use crate::heights;
 use cdb_grid::{Family, Tile, units};

@@ -1,6 +1,6 @@
 use Rattle.std.proofs.Common.{◌∙◌, Some, sym, ap, refl}
 use Rattle.cdb_check.proofs.SourceLaws.{file_gives, unread_gives}
-use Rattle.cdb_check.specs.Expected.{source_file}
+use Rattle.cdb_check.specs.inside.Expected.{source_file}
 use Rattle.cdb_check.proofs.files.check_source.Goals as goal
 
 pub returns-in-Ok-clause-gives : goal.returns-in-Ok-clause-gives

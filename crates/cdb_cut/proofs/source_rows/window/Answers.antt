@@ -3,7 +3,7 @@ use Rattle.cdb_grid.specs.Tiles.{tile_side}
 use Rattle.cdb_source.specs.Sample.{row_step, corner_of}
 use Rattle.cdb_source.specs.Reached.{kind_of}
 use Rattle.cdb_cut.specs.Window.{LooksAt}
-use Rattle.cdb_cut.specs.Parts.{HasRuns}
+use Rattle.cdb_cut.specs.inside.Parts.{HasRuns}
 use Rattle.cdb_cut.proofs.WindowLaws.{looked_at, looked_from}
 use Rattle.cdb_cut.proofs.source_rows.window.Goals as goal
 

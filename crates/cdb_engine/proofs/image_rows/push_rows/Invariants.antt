@@ -1,5 +1,5 @@
 use Rattle.cdb_model.specs.Spelled.{row_of_pixels}
-use Rattle.cdb_engine.specs.Words.{HasRows}
+use Rattle.cdb_engine.specs.inside.Words.{HasRows}
 use Rattle.cdb_engine.proofs.image_rows.push_rows.Given as goal
 
 abbrev pub invariant-loop-r : goal.invariant-loop-r

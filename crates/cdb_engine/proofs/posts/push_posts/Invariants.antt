@@ -1,5 +1,5 @@
 use Rattle.cdb_model.specs.Spelled.{spelled_row}
-use Rattle.cdb_engine.specs.Words.{HasRows}
+use Rattle.cdb_engine.specs.inside.Words.{HasRows}
 use Rattle.cdb_engine.proofs.posts.push_posts.Given as goal
 
 abbrev pub invariant-loop-row : goal.invariant-loop-row

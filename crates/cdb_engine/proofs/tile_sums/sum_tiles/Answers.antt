@@ -5,7 +5,7 @@ use Rattle.cdb_model.specs.Publications.{sources_up_to}
 use Rattle.cdb_model.specs.Stores.{known}
 use Rattle.cdb_generate.specs.Sums.{tile_sum, tiles_sum}
 use Rattle.cdb_generate.proofs.SumLaws.{sums_in_order}
-use Rattle.cdb_engine.specs.Populating.{IsOpenAt}
+use Rattle.cdb_engine.specs.inside.Populating.{IsOpenAt}
 use Rattle.cdb_engine.proofs.AskLaws.{one_of, least_more, most_more}
 use Rattle.cdb_engine.proofs.tile_sums.sum_tiles.Goals as goal
 

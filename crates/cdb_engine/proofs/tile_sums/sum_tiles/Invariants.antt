@@ -6,7 +6,7 @@ use Rattle.cdb_model.specs.Transitions.{StateIn}
 use Rattle.cdb_engine.specs.Stays.{Stays}
 use Rattle.cdb_engine.specs.Tracks.{Origin}
 use Rattle.cdb_generate.specs.Sums.{tiles_sum}
-use Rattle.cdb_engine.specs.Populating.{IsOpenAt}
+use Rattle.cdb_engine.specs.inside.Populating.{IsOpenAt}
 use Rattle.cdb_engine.proofs.tile_sums.sum_tiles.Given as goal
 
 abbrev pub invariant-loop-tile : goal.invariant-loop-tile

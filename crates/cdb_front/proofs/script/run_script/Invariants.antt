@@ -1,6 +1,6 @@
 use Rattle.std.proofs.Common.{◌≡◌, ◌≤◌, ◌-◌, []}
 use Rattle.cdb_front.specs.RunProgress.{RunStart, base_of, Told}
-use Rattle.cdb_front.specs.RunReading.{Reading}
+use Rattle.cdb_front.specs.inside.RunReading.{Reading}
 use Rattle.cdb_front.proofs.script.run_script.Given as goal
 
 abbrev pub invariant-loop-taken : goal.invariant-loop-taken

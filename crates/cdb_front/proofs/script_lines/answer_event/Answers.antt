@@ -2,7 +2,8 @@ use Rattle.std.proofs.Common.{[], ◌∷◌, sym, subst, ℕ, ap, ◌∙◌}
 use Rattle.cdb_model.specs.Runs as run
 use Rattle.cdb_model.specs.Runs.{Item, due}
 use Rattle.cdb_front.proofs.RunProgress.{both_told, first_torn}
-use Rattle.cdb_front.specs.RunProgress.{base_of, TellsFed}
+use Rattle.cdb_front.specs.RunProgress.{base_of}
+use Rattle.cdb_front.specs.inside.RunProgress.{TellsFed}
 use Rattle.cdb_front.proofs.script_lines.answer_event.Goals as goal
 
 pub returns-in-More-clause-told : goal.returns-in-More-clause-told

@@ -2,7 +2,7 @@ use Rattle.std.proofs.Common.{◌∙◌, get_or, take, [], refl, sym, ap}
 use Rattle.std.proofs.lemmas.List.{take_more}
 use Rattle.cdb_memfiles.specs.Crash.{only_made}
 use Rattle.cdb_memfiles.specs.History.{replay, apply}
-use Rattle.cdb_memfiles.specs.HistoryLaws.{replay-push}
+use Rattle.cdb_memfiles.specs.inside.HistoryLaws.{replay-push}
 use Rattle.cdb_memfiles.proofs.CrashLaws.{replay-empty}
 use Rattle.cdb_memfiles.proofs.crash.made_folders.Goals as goal
 

@@ -1,7 +1,8 @@
 use Rattle.std.proofs.Common.{◌∙◌, List, ℕ, Some, sym, ap, subst}
 use Rattle.cdb_model.specs.Maps.{Content, put}
 use Rattle.cdb_files.specs.Disk.{State}
-use Rattle.cdb_memfiles.specs.Crash.{restored_map, IsSettled}
+use Rattle.cdb_memfiles.specs.Crash.{IsSettled}
+use Rattle.cdb_memfiles.specs.inside.Crash.{restored_map}
 use Rattle.cdb_memfiles.specs.History.{replay}
 use Rattle.cdb_memfiles.specs.declared.call.Call.TheVariants.{Restore}
 use Rattle.cdb_memfiles.proofs.CrashLaws.{present-restore, made-restore, settled-restore}

@@ -1,7 +1,7 @@
 use Rattle.std.proofs.Common.{[], refl, sym, subst}
 use Rattle.cdb_files.specs.Disk.{State}
 use Rattle.cdb_memfiles.specs.History.{replay}
-use Rattle.cdb_memfiles.specs.HistoryLaws.{replay-push}
+use Rattle.cdb_memfiles.specs.inside.HistoryLaws.{replay-push}
 use Rattle.cdb_memfiles.specs.Standing.{shown, ShowsFiles}
 use Rattle.cdb_memfiles.proofs.CrashLaws.{replay-empty, shows-blank}
 use Rattle.cdb_memfiles.proofs.StandingLaws.{shown-empty}

@@ -1,7 +1,7 @@
 use Rattle.std.proofs.Common.{◌≡◌, ◌<◌, ◌+◌, ◌∙◌, sym, ap, map, take, get_or, length, refl, rules, arith}
 use Rattle.cdb_model.specs.Maps.{folder_above}
 use Rattle.cdb_crash.specs.Plan.{each_once}
-use Rattle.cdb_publish.specs.Planning.{source_paths_from, paths_in, once_more}
+use Rattle.cdb_publish.specs.inside.Planning.{source_paths_from, paths_in, once_more}
 use Rattle.cdb_publish.proofs.FolderLists.{one_source_more, one_tile_more, take_more}
 use Rattle.cdb_publish.proofs.folders.list_folders.Goals as goal
 

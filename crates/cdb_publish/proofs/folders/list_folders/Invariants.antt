@@ -1,7 +1,7 @@
 use Rattle.std.proofs.Common.{◌≡◌, ◌+◌, ◌≤◌, map, take, length}
 use Rattle.cdb_model.specs.Maps.{folder_above}
 use Rattle.cdb_crash.specs.Plan.{each_once}
-use Rattle.cdb_publish.specs.Planning.{source_paths_from, paths_in}
+use Rattle.cdb_publish.specs.inside.Planning.{source_paths_from, paths_in}
 use Rattle.cdb_publish.proofs.folders.list_folders.Given as goal
 
 abbrev pub invariant-loop-k : goal.invariant-loop-k

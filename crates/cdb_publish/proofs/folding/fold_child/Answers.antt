@@ -4,7 +4,7 @@ use Rattle.cdb_grid.specs.Frames.{IsPartChanged, four_under}
 use Rattle.cdb_cut.specs.OneTile.{StandsIn, four_rule}
 use Rattle.cdb_cut.proofs.ChildPlaces.{stands_at}
 use Rattle.cdb_cut.proofs.OneTile.{fold_child, miss_child}
-use Rattle.cdb_publish.specs.LookUps.{IsNamed, IsReadFrame}
+use Rattle.cdb_publish.specs.inside.LookUps.{IsNamed, IsReadFrame}
 use Rattle.cdb_cut.proofs.FinerTiles.{even_side}
 use Rattle.cdb_publish.proofs.folding.fold_child.Goals as goal
 

@@ -4,7 +4,8 @@ use Rattle.cdb_grid.specs.Children.{IsParent}
 use Rattle.cdb_grid.specs.declared.tile.Tile.{Tile}
 use Rattle.cdb_files.specs.Disk.{State}
 use Rattle.cdb_cut.specs.OneTile.{IsFolded}
-use Rattle.cdb_publish.specs.LookUps.{look, needs_of, child_needs, IsNamed}
+use Rattle.cdb_publish.specs.LookUps.{look, needs_of, child_needs}
+use Rattle.cdb_publish.specs.inside.LookUps.{IsNamed}
 use Rattle.cdb_publish.specs.Needs.{Need, AreSized, TellsError}
 use Rattle.cdb_cut.proofs.FinerTiles.{parents, all_folded}
 use Rattle.cdb_publish.proofs.ChildLaws.{needs_at, needs_more}

@@ -1,6 +1,6 @@
 use Rattle.std.proofs.Common.{Option, ℕ, sym, subst}
 use Rattle.cdb_cut.proofs.OneTileWhole.{fill_older, no_older}
-use Rattle.cdb_publish.specs.LookUps.{IsNamed, IsReadFrame}
+use Rattle.cdb_publish.specs.inside.LookUps.{IsNamed, IsReadFrame}
 use Rattle.cdb_publish.proofs.older.fill_older.Goals as goal
 
 pub returns-in-Ok-true-clause-filled : goal.returns-in-Ok-true-clause-filled

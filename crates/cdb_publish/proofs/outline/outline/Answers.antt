@@ -6,7 +6,8 @@ use Rattle.cdb_model.specs.Publications.{heads_of}
 use Rattle.cdb_model.specs.Maps.{folder_above}
 use Rattle.cdb_model.specs.Records.{record_text}
 use Rattle.cdb_crash.specs.Plan.{each_once}
-use Rattle.cdb_publish.specs.Planning.{IsLight, IsAccepted, paths_in}
+use Rattle.cdb_publish.specs.Planning.{IsLight, IsAccepted}
+use Rattle.cdb_publish.specs.inside.Planning.{paths_in}
 use Rattle.std.proofs.lemmas.List.{length-map}
 use Rattle.cdb_publish.proofs.EntryLists.{entries_few}
 use Rattle.cdb_publish.proofs.PlanBegins.{folders_are, one_publication}

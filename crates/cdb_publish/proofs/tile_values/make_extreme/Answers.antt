@@ -5,7 +5,8 @@ use Rattle.cdb_model.specs.TileFile.{tile_bytes}
 use Rattle.cdb_files.specs.Disk.{State}
 use Rattle.cdb_cut.specs.OneTile.{IsFrameOf, elevations_of}
 use Rattle.cdb_cut.proofs.OneTileWhole.{start_elevation, extreme_whole}
-use Rattle.cdb_publish.specs.LookUps.{child_needs, needs_of, look, IsNamed}
+use Rattle.cdb_publish.specs.LookUps.{child_needs, needs_of, look}
+use Rattle.cdb_publish.specs.inside.LookUps.{IsNamed}
 use Rattle.cdb_cut.specs.FinerTiles.{elevation_tile}
 use Rattle.cdb_publish.specs.Needs.{AreSized, TellsError}
 use Rattle.cdb_cut.proofs.FrameStarts.{extreme_kind, plain_elevations, elevations_same}

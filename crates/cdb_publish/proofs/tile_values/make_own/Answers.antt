@@ -2,9 +2,11 @@ use Rattle.std.proofs.Common.{ℕ, ◌++◌, ◌∙◌, length-append, sym, subs
 use Rattle.cdb_files.specs.Disk.{State}
 use Rattle.cdb_cut.specs.OneTile.{no_values}
 use Rattle.cdb_cut.proofs.OneTileWhole.{paint_start}
-use Rattle.cdb_publish.specs.LookUps.{child_needs, needs_of, look_before, IsNamed}
+use Rattle.cdb_publish.specs.LookUps.{child_needs, needs_of, look_before}
+use Rattle.cdb_publish.specs.inside.LookUps.{IsNamed}
 use Rattle.cdb_publish.specs.Needs.{AreSized, TellsError}
-use Rattle.cdb_publish.specs.Windows.{window_needs, HasRoom, HasSources}
+use Rattle.cdb_publish.specs.Windows.{window_needs, HasRoom}
+use Rattle.cdb_publish.specs.inside.Windows.{HasSources}
 use Rattle.cdb_publish.proofs.Sizes.{error_before, error_later, sized-append}
 use Rattle.cdb_publish.proofs.tile_values.make_own.Goals as goal
 

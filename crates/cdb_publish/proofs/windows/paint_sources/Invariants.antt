@@ -4,7 +4,7 @@ use Rattle.cdb_model.specs.Publications.{heads_of}
 use Rattle.cdb_files.specs.Moments.{Rests}
 use Rattle.cdb_cut.specs.OneTile.{IsPaintedBy}
 use Rattle.cdb_publish.specs.Needs.{AreSized}
-use Rattle.cdb_publish.specs.Windows.{HasSources}
+use Rattle.cdb_publish.specs.inside.Windows.{HasSources}
 use Rattle.cdb_publish.proofs.WindowReads.{from_on}
 use Rattle.cdb_publish.proofs.windows.paint_sources.Given as goal
 

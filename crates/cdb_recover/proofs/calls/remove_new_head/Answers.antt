@@ -4,7 +4,7 @@ use Rattle.cdb_files.specs.Disk.{State, after_remove}
 use Rattle.cdb_files.specs.Whole.{WritesOnly}
 use Rattle.cdb_files.proofs.StateLaws.{remove-only}
 use Rattle.cdb_files.proofs.WholeLaws.{begun, onward_ok, onward_err}
-use Rattle.cdb_recover.specs.Clearing.{RemovesOne}
+use Rattle.cdb_recover.specs.inside.Clearing.{RemovesOne}
 use Rattle.cdb_recover.proofs.Removals.{removes, fails_removes, removal-made}
 use Rattle.cdb_recover.proofs.calls.remove_new_head.Goals as goal
 

@@ -4,7 +4,7 @@ use Rattle.cdb_model.specs.Stands.{AtMost, Stands}
 use Rattle.cdb_files.specs.Disk.{State}
 use Rattle.cdb_crash.specs.Crash.{IsClean}
 use Rattle.cdb_crash.proofs.Own as own
-use Rattle.cdb_recover.specs.Clearing.{IsLeftUnder, RemovesUnder}
+use Rattle.cdb_recover.specs.inside.Clearing.{IsLeftUnder, RemovesUnder}
 use Rattle.cdb_recover.proofs.Removals.{removal-at, one_more, not_more, not_under, one_left}
 use Rattle.cdb_recover.proofs.Rounds.{Sofar, Counted, begins, reads, stands, goes, none_counted, one_counted}
 use Rattle.cdb_recover.proofs.clearing.clear.Goals as goal

@@ -1,8 +1,8 @@
 use Rattle.std.proofs.Common.{◌≡◌, ℕ, suc, ◌-◌, ◌<◌, map, sym, subst, arith}
 use Rattle.cdb_grid.specs.Grid.{Place}
 use Rattle.cdb_source.specs.Values.{sampled}
-use Rattle.cdb_scratch.specs.Cells.{CellReached}
-use Rattle.cdb_scratch.specs.Summaries.{summary_kind}
+use Rattle.cdb_scratch.specs.inside.Cells.{CellReached}
+use Rattle.cdb_scratch.specs.inside.Summaries.{summary_kind}
 use Rattle.cdb_scratch.proofs.ReachedLaws.{none_reaches}
 use Rattle.cdb_scratch.proofs.CellLaws.{one_less, south_west_at, south_east_at, north_west_at, north_east_at, child_is_corner, assembled, summary_none, summary_zero}
 use Rattle.cdb_scratch.proofs.cell.+summary_of.Goals as goal

@@ -1,7 +1,7 @@
 use Rattle.std.proofs.Common.{refl}
 use Rattle.cdb_grid.specs.Grid.{Place}
 use Rattle.cdb_source.specs.declared.source.Source.{Source}
-use Rattle.cdb_scratch.specs.Cells.{ReachesCell}
+use Rattle.cdb_scratch.specs.inside.Cells.{ReachesCell}
 use Rattle.cdb_touch.proofs.ReachedLaws.{none_more, none_of_all}
 use Rattle.cdb_scratch.proofs.ReachedLaws.{cell_reached_at, no_cell_reached}
 use Rattle.cdb_scratch.proofs.reach.is_cell_reached.Goals as goal

@@ -1,5 +1,5 @@
 use Rattle.std.proofs.Common.{All, take}
-use Rattle.cdb_scratch.specs.Cells.{ReachesCell}
+use Rattle.cdb_scratch.specs.inside.Cells.{ReachesCell}
 use Rattle.cdb_scratch.proofs.reach.is_cell_reached.Given as goal
 
 abbrev pub invariant-loop-source : goal.invariant-loop-source

@@ -1,6 +1,6 @@
 use Rattle.std.proofs.Common.{ℕ, ◌↔◌, ◌≤◌, ◌<◌, sym, subst, arith}
 use Rattle.cdb_source.specs.declared.kind.Kind.TheVariants.{Elevation, Material}
-use Rattle.cdb_touch.specs.Axis.{HasPlaceOnAxis}
+use Rattle.cdb_touch.specs.inside.Axis.{HasPlaceOnAxis}
 use Rattle.cdb_touch.proofs.AxisLaws.{each_place}
 use Rattle.cdb_touch.proofs.axis.with_places.Goals as goal
 

@@ -1,8 +1,8 @@
 use Rattle.std.proofs.Common.{◌≡◌, ℕ, ◌+◌, ◌≤◌, sym, subst, arith}
 use Rattle.cdb_source.specs.Reached.{source_height}
-use Rattle.cdb_touch.specs.Reach.{IsOfHeight, IsOfFamily}
+use Rattle.cdb_touch.specs.inside.Reach.{IsOfHeight, IsOfFamily}
 use Rattle.cdb_touch.proofs.Below.{IsBelowHeight}
-use Rattle.cdb_touch.specs.Touched.{AddsTiles}
+use Rattle.cdb_touch.specs.inside.Touched.{AddsTiles}
 use Rattle.cdb_touch.proofs.AddLaws.{Adds-none, Adds-then, Adds-iff}
 use Rattle.cdb_touch.proofs.LoadLaws.{height_none, one_height_split, all_heights_same}
 use Rattle.cdb_touch.proofs.gather.push_family.Goals as goal

@@ -1,7 +1,7 @@
 use Rattle.std.proofs.Common.{◌≤◌}
 use Rattle.cdb_source.specs.Reached.{source_height}
 use Rattle.cdb_touch.proofs.Below.{IsBelowHeight}
-use Rattle.cdb_touch.specs.Touched.{AddsTiles}
+use Rattle.cdb_touch.specs.inside.Touched.{AddsTiles}
 use Rattle.cdb_touch.proofs.gather.push_family.Given as goal
 
 abbrev pub invariant-loop-height : goal.invariant-loop-height

@@ -1,7 +1,7 @@
 use Rattle.std.proofs.Common.{ℕ, ◌+◌, ◌<◌, ◌≤◌, arith}
 use Rattle.cdb_grid.specs.Units.{row_of}
-use Rattle.cdb_touch.specs.Numbers.{IsInRectangle}
-use Rattle.cdb_touch.specs.Reach.{IsOfRow, IsOfHeight}
+use Rattle.cdb_touch.specs.inside.Numbers.{IsInRectangle}
+use Rattle.cdb_touch.specs.inside.Reach.{IsOfRow, IsOfHeight}
 use Rattle.cdb_touch.proofs.Below.{IsBelowRow}
 use Rattle.cdb_touch.proofs.AddLaws.{Adds-none, Adds-then, Adds-iff}
 use Rattle.cdb_touch.proofs.LoadLaws.{row_none, one_row_split, all_rows_same}

@@ -1,5 +1,5 @@
 use Rattle.cdb_touch.proofs.Below.{IsBelowRow}
-use Rattle.cdb_touch.specs.Touched.{AddsTiles}
+use Rattle.cdb_touch.specs.inside.Touched.{AddsTiles}
 use Rattle.cdb_touch.proofs.gather.push_height.Given as goal
 
 abbrev pub invariant-loop-row : goal.invariant-loop-row

@@ -2,8 +2,8 @@ use Rattle.std.proofs.Common.{◌⊎◌, List}
 use Rattle.cdb_grid.specs.declared.family.Family.TheVariants.{Elev, Low, High, Mat}
 use Rattle.cdb_grid.specs.declared.tile.Tile.{Tile}
 use Rattle.cdb_source.specs.Reached.{Reaches}
-use Rattle.cdb_touch.specs.Reach.{IsOfFamily}
-use Rattle.cdb_touch.specs.Touched.{AddsTiles}
+use Rattle.cdb_touch.specs.inside.Reach.{IsOfFamily}
+use Rattle.cdb_touch.specs.inside.Touched.{AddsTiles}
 use Rattle.cdb_touch.proofs.AddLaws.{Adds-then, Adds-iff, on_ok}
 use Rattle.cdb_touch.proofs.LoadLaws.{three_families_split, one_family_split}
 use Rattle.cdb_touch.proofs.gather.push_reached.Goals as goal

@@ -2,7 +2,7 @@ use Rattle.std.proofs.Common.{◌≡◌, ℕ, ◌+◌, ◌*◌, ◌/◌, ◌<◌
 use Rattle.cdb_grid.specs.Units.{tiles_of, width_at}
 use Rattle.cdb_grid.proofs.GridLaws.{quotient_of}
 use Rattle.cdb_touch.specs.declared.axis.Run.{Run}
-use Rattle.cdb_touch.specs.Numbers.{IsInRow, IsInRectangle}
+use Rattle.cdb_touch.specs.inside.Numbers.{IsInRow, IsInRectangle}
 use Rattle.cdb_touch.proofs.AddLaws.{Adds-none, Adds-then, Adds-iff, one_row_added, no_row_added, all_rows_added, empty_rectangle}
 use Rattle.cdb_touch.proofs.gather.push_rectangle.Goals as goal
 

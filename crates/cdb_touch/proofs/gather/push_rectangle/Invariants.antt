@@ -1,6 +1,6 @@
 use Rattle.std.proofs.Common.{◌≤◌, max}
-use Rattle.cdb_touch.specs.Numbers.{IsInRectangle}
-use Rattle.cdb_touch.specs.Touched.{AddsTiles}
+use Rattle.cdb_touch.specs.inside.Numbers.{IsInRectangle}
+use Rattle.cdb_touch.specs.inside.Touched.{AddsTiles}
 use Rattle.cdb_touch.proofs.gather.push_rectangle.Given as goal
 
 abbrev pub invariant-loop-row : goal.invariant-loop-row

@@ -1,8 +1,8 @@
 use Rattle.std.proofs.Common.{◌≡◌, ℕ, ◌+◌, ◌≤◌, ◌++◌, ◌∷◌, [], subst, sym, arith}
 use Rattle.cdb_grid.specs.declared.tile.Tile.{Tile}
 use Rattle.cdb_touch.specs.declared.axis.Run.{Run}
-use Rattle.cdb_touch.specs.Numbers.{IsInRow}
-use Rattle.cdb_touch.specs.Touched.{AddsTiles}
+use Rattle.cdb_touch.specs.inside.Numbers.{IsInRow}
+use Rattle.cdb_touch.specs.inside.Touched.{AddsTiles}
 use Rattle.cdb_touch.proofs.AddLaws.{Adds-none, Adds-one, Adds-then, Adds-iff, one_column_more, no_column, all_columns}
 use Rattle.cdb_touch.proofs.gather.push_row.Goals as goal
 

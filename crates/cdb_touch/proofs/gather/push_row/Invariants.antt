@@ -1,6 +1,6 @@
 use Rattle.std.proofs.Common.{◌≤◌, max}
-use Rattle.cdb_touch.specs.Numbers.{IsInRow}
-use Rattle.cdb_touch.specs.Touched.{AddsTiles}
+use Rattle.cdb_touch.specs.inside.Numbers.{IsInRow}
+use Rattle.cdb_touch.specs.inside.Touched.{AddsTiles}
 use Rattle.cdb_touch.proofs.gather.push_row.Given as goal
 
 abbrev pub invariant-loop-column : goal.invariant-loop-column

@@ -2,7 +2,7 @@ use Rattle.std.proofs.Common.{◌≡◌, ◌*◌, ◌≤◌}
 use Rattle.cdb_grid.specs.Units.{tiles_of}
 use Rattle.cdb_grid.specs.declared.family.Family.{Family}
 use Rattle.cdb_source.specs.Reached.{kind_of}
-use Rattle.cdb_touch.specs.Count.{HasCount}
+use Rattle.cdb_touch.specs.inside.Count.{HasCount}
 use Rattle.cdb_touch.proofs.Below.{IsBelowRow}
 use Rattle.cdb_touch.proofs.loads.count_at_height.Given as goal
 

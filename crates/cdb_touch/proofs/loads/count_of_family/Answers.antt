@@ -1,7 +1,7 @@
 use Rattle.std.proofs.Common.{◌≡◌, ℕ, ◌+◌, ◌<◌, ◌≤◌, sym, subst, arith, rules}
 use Rattle.cdb_grid.proofs.UnitLaws.{height-least}
 use Rattle.cdb_source.specs.Reached.{source_height}
-use Rattle.cdb_touch.specs.Count.{HasCount}
+use Rattle.cdb_touch.specs.inside.Count.{HasCount}
 use Rattle.cdb_touch.proofs.Below.{IsBelowHeight}
 use Rattle.cdb_touch.proofs.LoadLaws.{IsSmall, no_height, one_height_more, all_heights_counted, small_none, small_more, small_end, small_fits}
 use Rattle.cdb_touch.proofs.loads.count_of_family.Goals as goal

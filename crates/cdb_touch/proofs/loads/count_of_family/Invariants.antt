@@ -1,7 +1,7 @@
 use Rattle.std.proofs.Common.{◌≡◌, ◌≤◌}
 use Rattle.cdb_grid.specs.declared.family.Family.{Family}
 use Rattle.cdb_source.specs.Reached.{kind_of, source_height}
-use Rattle.cdb_touch.specs.Count.{HasCount}
+use Rattle.cdb_touch.specs.inside.Count.{HasCount}
 use Rattle.cdb_touch.proofs.Below.{IsBelowHeight}
 use Rattle.cdb_touch.proofs.LoadLaws.{IsSmall}
 use Rattle.cdb_touch.proofs.loads.count_of_family.Given as goal

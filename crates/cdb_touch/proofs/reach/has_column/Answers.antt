@@ -1,8 +1,8 @@
 use Rattle.std.proofs.Common.{ℕ, ◌↔◌, ◌*◌, ◌/◌, ◌≤◌, ◌<◌, sym, subst}
 use Rattle.cdb_grid.specs.Units.{tiles_of, width_at}
 use Rattle.cdb_grid.specs.Tiles.{tile_height}
-use Rattle.cdb_touch.specs.Numbers.{tile_width, column_number}
-use Rattle.cdb_touch.specs.Reach.{HasColumn}
+use Rattle.cdb_touch.specs.inside.Numbers.{tile_width, column_number}
+use Rattle.cdb_touch.specs.inside.Reach.{HasColumn}
 use Rattle.cdb_touch.proofs.NumberLaws.{column_number-below}
 use Rattle.cdb_touch.proofs.reach.has_column.Goals as goal
 

@@ -1,8 +1,8 @@
 use Rattle.std.proofs.Common.{ℕ, ◌↔◌, ◌*◌, ◌≤◌, ◌<◌, sym, subst}
 use Rattle.cdb_grid.specs.Units.{tiles_of}
 use Rattle.cdb_grid.specs.Tiles.{tile_height}
-use Rattle.cdb_touch.specs.Numbers.{row_number}
-use Rattle.cdb_touch.specs.Reach.{HasRow}
+use Rattle.cdb_touch.specs.inside.Numbers.{row_number}
+use Rattle.cdb_touch.specs.inside.Reach.{HasRow}
 use Rattle.cdb_touch.proofs.NumberLaws.{row_number-below}
 use Rattle.cdb_touch.proofs.reach.has_row.Goals as goal
 

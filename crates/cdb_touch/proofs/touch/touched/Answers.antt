@@ -2,7 +2,7 @@ use Rattle.std.proofs.Common.{◌≡◌, ◌↔◌, List, true, is_ok, sym}
 use Rattle.std.specs.List.{Contains}
 use Rattle.cdb_grid.specs.declared.tile.Tile.{Tile}
 use Rattle.cdb_source.specs.Reached.{Reached}
-use Rattle.cdb_touch.specs.Touched.{AddsTiles}
+use Rattle.cdb_touch.specs.inside.Touched.{AddsTiles}
 use Rattle.cdb_touch.proofs.AddLaws.{ok_fact, grown}
 use Rattle.cdb_source.proofs.OnceLaws.{ascending_once}
 use Rattle.cdb_touch.proofs.touch.touched.Goals as goal

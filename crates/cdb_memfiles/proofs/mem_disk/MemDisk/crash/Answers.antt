@@ -2,7 +2,7 @@ use Rattle.std.proofs.Common.{◌∙◌, sym, ap, subst}
 use Rattle.cdb_model.specs.Maps.{FileMap}
 use Rattle.cdb_files.specs.Disk.{State, IsImage}
 use Rattle.cdb_memfiles.specs.History.{replay}
-use Rattle.cdb_memfiles.specs.HistoryLaws.{present_is_possible}
+use Rattle.cdb_memfiles.specs.inside.HistoryLaws.{present_is_possible}
 use Rattle.cdb_memfiles.specs.Standing.{shown}
 use Rattle.cdb_memfiles.proofs.CrashLaws.{picked-shown, picked-image}
 use Rattle.cdb_memfiles.proofs.mem_disk.MemDisk.crash.Goals as goal

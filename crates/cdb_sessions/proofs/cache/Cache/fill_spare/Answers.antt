@@ -1,7 +1,8 @@
 use Rattle.std.proofs.Common.{◌≡◌, take, length, sym, ap, ◌∙◌, subst}
 use Rattle.std.specs.Result.{IfOk}
 use Rattle.cdb_pool.specs.Frames.{contents, written}
-use Rattle.cdb_sessions.specs.Cache.{Cache, kept_files, IsFileRead}
+use Rattle.cdb_sessions.specs.Cache.{Cache, kept_files}
+use Rattle.cdb_sessions.specs.inside.Cache.{IsFileRead}
 use Rattle.cdb_sessions.proofs.CacheLaws.{spared}
 use Rattle.cdb_sessions.proofs.cache.Cache.fill_spare.Goals as goal
 

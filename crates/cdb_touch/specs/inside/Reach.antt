@@ -7,7 +7,7 @@ use Rattle.cdb_grid.specs.declared.tile.Tile.{Tile}
 use Rattle.cdb_source.specs.declared.head.SourceHead.{SourceHead}
 use Rattle.cdb_source.specs.Sample.{corner_of, box_height, box_width}
 use Rattle.cdb_source.specs.Reached.{source_height, Reaches}
-use Rattle.cdb_touch.specs.Axis.{HasPlaceOnAxis}
+use Rattle.cdb_touch.specs.inside.Axis.{HasPlaceOnAxis}
 
 -- the row of tiles of a height with this number has a place of the source's level in its box
 abbrev pub HasRow : SourceHead → ℕ → ℕ → Type 0

@@ -2,7 +2,8 @@
 use Rattle.std.specs.Prelude.{◌≡◌, ℕ, List, Option, Result, IfOk, OnOk, OnErr, MatchOption}
 use Rattle.arrayvec.specs.ArrayString.{ArrayString}
 use Rattle.cdb_model.specs.Maps.{Text, FileMap, size_of, HasAt, NoneUnder, IsFirstUnder}
-use Rattle.cdb_files.specs.Disk.{State, FailsAppend, Moves}
+use Rattle.cdb_files.specs.Disk.{State, FailsAppend}
+use Rattle.cdb_files.specs.inside.Disk.{Moves}
 use Rattle.cdb_files.specs.Moments.{IsBetween, Elapses, Rests}
 
 -- The size of a file is told.

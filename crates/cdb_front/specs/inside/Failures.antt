@@ -1,0 +1,15 @@
+-- Inside the crate: a run ends at its first call of the input or the output that fails: no further one follows, as the count of failures
+use Rattle.std.specs.Prelude.{◌≡◌, ℕ}
+use Rattle.cdb_front.specs.declared.fed.Fed.TheVariants as fed
+use Rattle.cdb_front.specs.declared.read_turn.Turned.{Turned}
+use Rattle.cdb_front.specs.declared.read_turn.Turned.TheVariants.{Taken, Stopped}
+use Rattle.cdb_front.specs.Failures.{ReadsOnce, WritesOnce}
+
+-- and of one read of the input and what follows it
+abbrev pub WritesInTurn : Turned → ℕ → ℕ → Type 0
+WritesInTurn (Taken count) before now = now ≡ before
+WritesInTurn (Stopped status) before now = WritesOnce status before now
+
+abbrev pub ReadsInTurn : Turned → ℕ → ℕ → Type 0
+ReadsInTurn (Taken count) before now = now ≡ before
+ReadsInTurn (Stopped status) before now = ReadsOnce status before now

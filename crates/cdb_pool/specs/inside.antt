@@ -1,0 +1,2 @@
+-- Definitions that functions inside the crate cite, and no public contract.
+pub mod Windows

@@ -1,0 +1,6 @@
+-- Definitions that functions inside the crate cite, and no public contract.
+pub mod LookUps
+pub mod Making
+pub mod Planning
+pub mod TileFiles
+pub mod Windows
