@@ -101,10 +101,10 @@ opens_found list Fault h = tt
 opens_found list (NotAStore version place) h = h
 
 pub chain_refuses : (T : Type 0) (tells : Type 0) (present mid : FileMap) (newest : ℕ) (error : OpenError) → (tells → IsAnswer present (Ok newest)) → (tells → KeepsStore present mid) → IsOpenedFrom tells mid newest (Err error)
-    → TellsNoStore {T = T} tells present (Err error)
+    → TellsNoStore {T = T} tells present mid (Err error)
 chain_refuses T tells present mid newest Memory answer keeps h = tt
 chain_refuses T tells present mid newest Fault answer keeps h = tt
-chain_refuses T tells present mid newest (NotAStore version place) answer keeps h = λ told. IsNoStore.bad_record newest mid (answer told) (keeps told) record {
+chain_refuses T tells present mid newest (NotAStore version place) answer keeps h = λ told. IsNoStore.bad_record newest (answer told) (keeps told) record {
   earlier = h.earlier;
   read = record { numbered = h.read.numbered; told = λ t. h.read.told told };
   next = h.next;
@@ -112,9 +112,12 @@ chain_refuses T tells present mid newest (NotAStore version place) answer keeps 
   bad = λ t. h.bad told;
 }
 
-pub recovery_refuses : (T : Type 0) (tells : Type 0) (present : FileMap) (error : RecoverError) → (tells → IsAnswer present (Err error)) → TellsNoStore {T = T} tells present (Err (open_error_of error))
-recovery_refuses T tells present recovery.Fault answer = tt
-recovery_refuses T tells present (recovery.NotAStore version place) answer = λ told. IsNoStore.unrecovered (answer told)
+pub recovery_refuses : (T : Type 0) (tells : Type 0) (present left : FileMap) (error : RecoverError)
+    → (tells → IsAnswer present (Err error)) → (tells → KeepsStore present left)
+    → TellsNoStore {T = T} tells present left (Err (open_error_of error))
+recovery_refuses T tells present left recovery.Fault answer kept = tt
+recovery_refuses T tells present left (recovery.NotAStore version place) answer kept =
+    λ told. IsNoStore.unrecovered (answer told) (kept told)
 
 pub recovery_found : (error : RecoverError) → error ≡ recovery.Fault → IsStoreFound (open_error_of error)
 recovery_found error is = subst (λ (e : RecoverError). IsStoreFound (open_error_of e)) (sym is) tt

@@ -29,18 +29,19 @@ IsStore list _ d = ⊥
 -- ---- why a disk has no store
 
 -- recovery refuses the files that were there; or it gives the newest version, and of the versions up to it one has a
--- bad record among the files that recovery leaves, the first such version
-pub data IsNoStore (present : FileMap) (version place : ℕ) : Type 0 where
-  unrecovered : IsAnswer present (Err (recovery.NotAStore version place)) → IsNoStore present version place
-  bad_record : (newest : ℕ) (left : FileMap) → IsAnswer present (Ok newest) → KeepsStore present left
-      → IsFirstBad (Unit {0}) left newest version place → IsNoStore present version place
+-- bad record among the files that are left, the first such version. Only leftovers of recovery are gone from them
+pub data IsNoStore (present left : FileMap) (version place : ℕ) : Type 0 where
+  unrecovered : IsAnswer present (Err (recovery.NotAStore version place)) → KeepsStore present left
+      → IsNoStore present left version place
+  bad_record : (newest : ℕ) → IsAnswer present (Ok newest) → KeepsStore present left
+      → IsFirstBad (Unit {0}) left newest version place → IsNoStore present left version place
 
--- what opening says of the files that were there, where the disk tells
-abbrev pub TellsNoStore : {T : Type 0} → Type 0 → FileMap → Result T OpenError → Type 0
-TellsNoStore Tells present (Ok _) = Unit {0}
-TellsNoStore Tells present (Err Memory) = Unit {0}
-TellsNoStore Tells present (Err Fault) = Unit {0}
-TellsNoStore Tells present (Err (NotAStore version place)) = Tells → IsNoStore present version place
+-- what opening says of the files that were there, and of those that are left, where the disk tells
+abbrev pub TellsNoStore : {T : Type 0} → Type 0 → FileMap → FileMap → Result T OpenError → Type 0
+TellsNoStore Tells present left (Ok _) = Unit {0}
+TellsNoStore Tells present left (Err Memory) = Unit {0}
+TellsNoStore Tells present left (Err Fault) = Unit {0}
+TellsNoStore Tells present left (Err (NotAStore version place)) = Tells → IsNoStore present left version place
 
 -- a store was found
 abbrev pub IsStoreFound : OpenError → Type 0

@@ -7,6 +7,7 @@ ghost use Rattle.cdb_model.specs.KnownStore.{start_at};
 ghost use Rattle.cdb_model.specs.Stores.{any_store};
 ghost use Rattle.cdb_model.specs.Transitions.{IsFreshIn};
 ghost use Rattle.cdb_files.specs.Moments.{AddsOnly};
+ghost use Rattle.cdb_recover.specs.Answers.{KeepsStore};
 ghost use Rattle.cdb_engine.specs.Checks.{AreOpened};
 ghost use Rattle.cdb_engine.specs.Stays.{bare_of};
 ghost use Rattle.cdb_engine.specs.Store.{IsStore, IsStoreFound, TellsNoStore};
@@ -35,6 +36,7 @@ impl Engine {
     /// `Fault` only where a call of the disk failed. `NotAStore` exactly where recovery refuses the
     /// store, or else the record of a version isn't there, is too long, isn't of its form, or is of
     /// another version. `Memory`: memory for the records or for the tiles that are kept was refused.
+    /// Whatever it answers, nothing is removed but what an unfinished publication left.
     pub fn open<D: Disk>(alloc: Global, disk: &mut D) -> Result<Engine, OpenError>
         ensures begins { D.tells → (list : List (List given.Source)) (early : List (List (List given.Source)))
             → IsStore list early (D.state disk.old)
@@ -49,7 +51,8 @@ impl Engine {
             → AddsOnly D.clock D.since disk.old disk.new (StandsForOne (list ∷ early)) }
         ensures store { D.tells → (list : List (List given.Source)) (early : List (List (List given.Source)))
             → IsStore list early (D.state disk.old) → IfErr result IsStoreFound }
-        ensures no_store { TellsNoStore D.tells (D.state disk.old).present result }
+        ensures no_store { TellsNoStore D.tells (D.state disk.old).present (D.state disk.new).present result }
+        ensures kept { D.tells → KeepsStore (D.state disk.old).present (D.state disk.new).present }
         ensures later { D.fault_count disk.old ≤ D.fault_count disk.new }
         ensures cause { result ≡ Err OpenError.Fault → Rose (D.fault_count disk.old) (D.fault_count disk.new) }
     {

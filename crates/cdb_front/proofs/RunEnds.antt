@@ -313,39 +313,39 @@ stops_closed {tells = tells} {e = e} status left written shelf disk Now closed t
 -- ---- a store or none
 
 -- a run that ends with another status than it aimed at says nothing of the store
-pub says_store : (tells : Type 0) (present : FileMap) (status result : Status)
-    → ((result ≡ OutputFault → ⊥) → result ≡ status) → SaysStore tells present status
-    → SaysStore tells present result
-says_store tells present status OutputFault same says = tt
-says_store tells present status Memory same says = tt
-says_store tells present status Usage same says = tt
-says_store tells present status StoreFault same says = tt
-says_store tells present status Done same says =
-    subst (λ (x : Status). SaysStore tells present x) (sym (same (λ e. cc))) says
-says_store tells present status InputFault same says =
-    subst (λ (x : Status). SaysStore tells present x) (sym (same (λ e. cc))) says
-says_store tells present status TooLong same says =
-    subst (λ (x : Status). SaysStore tells present x) (sym (same (λ e. cc))) says
-says_store tells present status (Differs path) same says =
-    subst (λ (x : Status). SaysStore tells present x) (sym (same (λ e. cc))) says
-says_store tells present status (Refused limit) same says =
-    subst (λ (x : Status). SaysStore tells present x) (sym (same (λ e. cc))) says
-says_store tells present status (Damaged expected found) same says =
-    subst (λ (x : Status). SaysStore tells present x) (sym (same (λ e. cc))) says
-says_store tells present status (NotAStore version place) same says =
-    subst (λ (x : Status). SaysStore tells present x) (sym (same (λ e. cc))) says
+pub says_store : (tells : Type 0) (present now : FileMap) (status result : Status)
+    → ((result ≡ OutputFault → ⊥) → result ≡ status) → SaysStore tells present now status
+    → SaysStore tells present now result
+says_store tells present now status OutputFault same says = tt
+says_store tells present now status Memory same says = tt
+says_store tells present now status Usage same says = tt
+says_store tells present now status StoreFault same says = tt
+says_store tells present now status Done same says =
+    subst (λ (x : Status). SaysStore tells present now x) (sym (same (λ e. cc))) says
+says_store tells present now status InputFault same says =
+    subst (λ (x : Status). SaysStore tells present now x) (sym (same (λ e. cc))) says
+says_store tells present now status TooLong same says =
+    subst (λ (x : Status). SaysStore tells present now x) (sym (same (λ e. cc))) says
+says_store tells present now status (Differs path) same says =
+    subst (λ (x : Status). SaysStore tells present now x) (sym (same (λ e. cc))) says
+says_store tells present now status (Refused limit) same says =
+    subst (λ (x : Status). SaysStore tells present now x) (sym (same (λ e. cc))) says
+says_store tells present now status (Damaged expected found) same says =
+    subst (λ (x : Status). SaysStore tells present now x) (sym (same (λ e. cc))) says
+says_store tells present now status (NotAStore version place) same says =
+    subst (λ (x : Status). SaysStore tells present now x) (sym (same (λ e. cc))) says
 
 -- a run that came after opening
-pub opened_says : (tells : Type 0) (present left : FileMap) (records : List Record) (status : Status)
+pub opened_says : (tells : Type 0) (present left now : FileMap) (records : List Record) (status : Status)
     → (tells → AreOpened present left records) → ((version place : ℕ) → status ≡ NotAStore version place → ⊥)
-    → SaysStore tells present status
-opened_says tells present left records status opened is_one = by status is_one
+    → SaysStore tells present now status
+opened_says tells present left now records status opened is_one = by status is_one
   where
     has : tells → HasRecords present
     has told = record { left = left; records = records; opened = opened told }
 
     by : (status : Status) → ((version place : ℕ) → status ≡ NotAStore version place → ⊥)
-        → SaysStore tells present status
+        → SaysStore tells present now status
     by Done is_one = has
     by Memory is_one = tt
     by Usage is_one = tt
@@ -378,14 +378,14 @@ unopened_of_store error status is found = subst (λ (x : Status). IsOfStore x) (
     by refused.Fault found = tt
     by (refused.NotAStore version place) found = absurd found
 
-pub unopened_says : (T : Type 0) (tells : Type 0) (present : FileMap) (error : OpenError) (status : Status)
+pub unopened_says : (T : Type 0) (tells : Type 0) (present now : FileMap) (error : OpenError) (status : Status)
     → status ≡ status_of error
-    → TellsNoStore {T = T} tells present (Err error) → SaysStore tells present status
-unopened_says T tells present error status is told = subst (λ (x : Status). SaysStore tells present x) (sym is)
+    → TellsNoStore {T = T} tells present now (Err error) → SaysStore tells present now status
+unopened_says T tells present now error status is told = subst (λ (x : Status). SaysStore tells present now x) (sym is)
     (by error told)
   where
-    by : (error : OpenError) → TellsNoStore {T = T} tells present (Err error)
-        → SaysStore tells present (status_of error)
+    by : (error : OpenError) → TellsNoStore {T = T} tells present now (Err error)
+        → SaysStore tells present now (status_of error)
     by refused.Memory told = tt
     by refused.Fault told = tt
     by (refused.NotAStore version place) told = told

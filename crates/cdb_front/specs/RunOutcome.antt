@@ -211,15 +211,15 @@ pub record HasRecords (present : FileMap) : Type 0 where
   pub records : List Record
   pub opened : AreOpened present left records
 
--- where the disk tells: no store was opened since the files that were there are none; and a status that comes after
--- opening comes where they are one
-abbrev pub SaysStore : Type 0 → FileMap → Status → Type 0
-SaysStore tells present (NotAStore version place) = tells → IsNoStore present version place
-SaysStore tells present Memory = Unit {0}
-SaysStore tells present Usage = Unit {0}
-SaysStore tells present OutputFault = Unit {0}
-SaysStore tells present StoreFault = Unit {0}
-SaysStore tells present status = tells → HasRecords present
+-- where the disk tells: no store was opened since the files that were there are none, and only leftovers of recovery are
+-- gone from them; and a status that comes after opening comes where they are one
+abbrev pub SaysStore : Type 0 → FileMap → FileMap → Status → Type 0
+SaysStore tells present now (NotAStore version place) = tells → IsNoStore present now version place
+SaysStore tells present now Memory = Unit {0}
+SaysStore tells present now Usage = Unit {0}
+SaysStore tells present now OutputFault = Unit {0}
+SaysStore tells present now StoreFault = Unit {0}
+SaysStore tells present now status = tells → HasRecords present
 
 -- ---- the whole run
 

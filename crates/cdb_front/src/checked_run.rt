@@ -51,7 +51,7 @@ pub fn check_over<D: Disk, O: Output>(alloc: Global, disk: &mut D, output: &mut 
     ensures checks { Checks D.tells D.state D.clock D.since disk.old disk.new (O.written output.old)
         (O.written output.new) result }
     ensures store_failed { result ≡ Status.StoreFault → Rose (D.fault_count disk.old) (D.fault_count disk.new) }
-    ensures store { SaysStore D.tells (D.state disk.old).present result }
+    ensures store { SaysStore D.tells (D.state disk.old).present (D.state disk.new).present result }
     ensures one_write_fails { WritesOnce result (O.fault_count output.old) (O.fault_count output.new) }
     ensures output_failed { result ≡ Status.OutputFault → Rose (O.fault_count output.old) (O.fault_count output.new) }
     ensures words { result ≢ Status.Usage }

@@ -83,7 +83,7 @@ pub fn fill_over<D: Disk, O: Output>(
     ensures fills { Fills D.tells D.state D.clock D.since start count disk.old disk.new (O.written output.old)
         (O.written output.new) result }
     ensures store_failed { result ≡ Status.StoreFault → Rose (D.fault_count disk.old) (D.fault_count disk.new) }
-    ensures store { SaysStore D.tells (D.state disk.old).present result }
+    ensures store { SaysStore D.tells (D.state disk.old).present (D.state disk.new).present result }
     ensures one_write_fails { WritesOnce result (O.fault_count output.old) (O.fault_count output.new) }
     ensures output_failed { result ≡ Status.OutputFault → Rose (O.fault_count output.old) (O.fault_count output.new) }
     ensures words { result ≢ Status.Usage }

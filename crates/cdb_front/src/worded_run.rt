@@ -69,7 +69,7 @@ pub fn cdb_run<D: Disk, H: Shelf, I: Input, O: Output>(
         (O.written output.new) result }
     ensures input_failed { result ≡ Status.InputFault → Rose (I.fault_count input.old) (I.fault_count input.new) }
     ensures store_failed { result ≡ Status.StoreFault → Rose (D.fault_count disk.old) (D.fault_count disk.new) }
-    ensures store { SaysStore D.tells (D.state disk.old).present result }
+    ensures store { SaysStore D.tells (D.state disk.old).present (D.state disk.new).present result }
     ensures no_read_fails { result ≢ Status.InputFault → result ≢ Status.OutputFault
         → I.fault_count input.new ≡ I.fault_count input.old }
     ensures one_read_fails { I.fault_count input.new ≤ I.fault_count input.old + 1 }

@@ -13,9 +13,10 @@ returns-in-Err-clause-checks g c =
 
 pub returns-in-Err-clause-store : goal.returns-in-Err-clause-store
 returns-in-Err-clause-store g c =
-    says_store g.D.Disk.tells (g.D.Disk.state c.args.disk.now).present c.open_status.result c.end.result
+    says_store g.D.Disk.tells (g.D.Disk.state c.args.disk.now).present _ c.open_status.result c.end.result
     c.end.ensures.same
-    (unopened_says Unit g.D.Disk.tells (g.D.Disk.state c.args.disk.now).present c.in-Err.error c.open_status.result
+    (unopened_says Unit g.D.Disk.tells (g.D.Disk.state c.args.disk.now).present
+    (g.D.Disk.state c.open.new.disk).present c.in-Err.error c.open_status.result
     c.open_status.ensures.status c.in-Err.ensures.no_store)
 
 pub returns-in-Ok-say_agreed-clause-checks : goal.returns-in-Ok-say_agreed-clause-checks
@@ -50,12 +51,12 @@ returns-clause-checks g c =
 pub returns-in-Ok-say_agreed-clause-store : goal.returns-in-Ok-say_agreed-clause-store
 returns-in-Ok-say_agreed-clause-store g c =
     opened_says g.D.Disk.tells (g.D.Disk.state c.args.disk.now).present (g.D.Disk.state c.open.new.disk).present
-    c.in-Ok.engine.chain.records Done c.in-Ok.ensures.read (λ version place e. cc)
+    (g.D.Disk.state c.open.new.disk).present c.in-Ok.engine.chain.records Done c.in-Ok.ensures.read (λ version place e. cc)
 
 pub returns-clause-store : goal.returns-clause-store
 returns-clause-store g c =
-    says_store g.D.Disk.tells (g.D.Disk.state c.args.disk.now).present c.check_status.result c.end-in-Err-check.result
+    says_store g.D.Disk.tells (g.D.Disk.state c.args.disk.now).present _ c.check_status.result c.end-in-Err-check.result
     c.end-in-Err-check.ensures.same
     (opened_says g.D.Disk.tells (g.D.Disk.state c.args.disk.now).present (g.D.Disk.state c.open.new.disk).present
-    c.in-Ok.engine.chain.records c.check_status.result c.in-Ok.ensures.read
+    _ c.in-Ok.engine.chain.records c.check_status.result c.in-Ok.ensures.read
     (checked_is_one c.in-Err-check.error c.check_status.result c.check_status.ensures.status))

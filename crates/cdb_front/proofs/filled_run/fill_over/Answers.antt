@@ -19,9 +19,10 @@ returns-in-Err-clause-fills g c =
 
 pub returns-in-Err-clause-store : goal.returns-in-Err-clause-store
 returns-in-Err-clause-store g c =
-    says_store g.D.Disk.tells (g.D.Disk.state c.args.disk.now).present c.open_status.result c.end.result
+    says_store g.D.Disk.tells (g.D.Disk.state c.args.disk.now).present _ c.open_status.result c.end.result
     c.end.ensures.same
-    (unopened_says Unit g.D.Disk.tells (g.D.Disk.state c.args.disk.now).present c.in-Err.error c.open_status.result
+    (unopened_says Unit g.D.Disk.tells (g.D.Disk.state c.args.disk.now).present
+    (g.D.Disk.state c.open.new.disk).present c.in-Err.error c.open_status.result
     c.open_status.ensures.status c.in-Err.ensures.no_store)
 
 pub returns-in-Ok-say_made-clause-fills : goal.returns-in-Ok-say_made-clause-fills
@@ -75,12 +76,12 @@ returns-clause-fills g c =
 pub returns-in-Ok-say_made-clause-store : goal.returns-in-Ok-say_made-clause-store
 returns-in-Ok-say_made-clause-store g c =
     opened_says g.D.Disk.tells (g.D.Disk.state c.args.disk.now).present (g.D.Disk.state c.open.new.disk).present
-    c.in-Ok.engine.chain.records Done c.in-Ok.ensures.read (λ version place e. cc)
+    (g.D.Disk.state c.open.new.disk).present c.in-Ok.engine.chain.records Done c.in-Ok.ensures.read (λ version place e. cc)
 
 pub returns-clause-store : goal.returns-clause-store
 returns-clause-store g c =
-    says_store g.D.Disk.tells (g.D.Disk.state c.args.disk.now).present c.fill_status.result c.end-in-Err-populate.result
+    says_store g.D.Disk.tells (g.D.Disk.state c.args.disk.now).present _ c.fill_status.result c.end-in-Err-populate.result
     c.end-in-Err-populate.ensures.same
     (opened_says g.D.Disk.tells (g.D.Disk.state c.args.disk.now).present (g.D.Disk.state c.open.new.disk).present
-    c.in-Ok.engine.chain.records c.fill_status.result c.in-Ok.ensures.read
+    _ c.in-Ok.engine.chain.records c.fill_status.result c.in-Ok.ensures.read
     (stopped_is_one c.in-Err-populate.error c.fill_status.result c.fill_status.ensures.status))

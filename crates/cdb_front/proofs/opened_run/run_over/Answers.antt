@@ -90,15 +90,16 @@ returns-in-Ok-clause-no_read_fails g c =
 
 pub returns-in-Ok-clause-store : goal.returns-in-Ok-clause-store
 returns-in-Ok-clause-store g c =
-    says_store g.D.Disk.tells (g.D.Disk.state c.args.disk.now).present c.run_script-status.result c.end.result
+    says_store g.D.Disk.tells (g.D.Disk.state c.args.disk.now).present _ c.run_script-status.result c.end.result
     c.end.ensures.same
     (opened_says g.D.Disk.tells (g.D.Disk.state c.args.disk.now).present (g.D.Disk.state c.open.new.disk).present
-    c.in-Ok.engine.chain.records c.run_script-status.result c.in-Ok.ensures.read
+    _ c.in-Ok.engine.chain.records c.run_script-status.result c.in-Ok.ensures.read
     (opened_is_one c.run_script-status.result c.run_script-status.ensures.opened))
 
 pub returns-in-Err-clause-store : goal.returns-in-Err-clause-store
 returns-in-Err-clause-store g c =
-    says_store g.D.Disk.tells (g.D.Disk.state c.args.disk.now).present c.open_status.result c.end-in-Err.result
+    says_store g.D.Disk.tells (g.D.Disk.state c.args.disk.now).present _ c.open_status.result c.end-in-Err.result
     c.end-in-Err.ensures.same
-    (unopened_says Unit g.D.Disk.tells (g.D.Disk.state c.args.disk.now).present c.in-Err.error c.open_status.result
+    (unopened_says Unit g.D.Disk.tells (g.D.Disk.state c.args.disk.now).present
+    (g.D.Disk.state c.open.new.disk).present c.in-Err.error c.open_status.result
     c.open_status.ensures.status c.in-Err.ensures.no_store)

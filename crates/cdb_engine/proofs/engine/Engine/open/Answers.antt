@@ -1,7 +1,9 @@
 use Rattle.std.proofs.Common.{◌∷◌, sym, subst}
 use Rattle.cdb_model.specs.Images.{StandsForOne}
 use Rattle.cdb_engine.specs.contracts.engine.Engine.{the_row}
-use Rattle.cdb_engine.specs.Store.{IsStoreFound}
+use Rattle.std.specs.Prelude.{Err}
+use Rattle.cdb_files.specs.Disk.{State}
+use Rattle.cdb_engine.specs.Store.{IsStoreFound, TellsNoStore}
 use Rattle.cdb_engine.proofs.OpenTracks.{store_stands, recovers, recover_moments, adds_rests, opened_tracks, opens_found, chain_refuses, recovery_found}
 use Rattle.cdb_engine.proofs.engine.Engine.open.Goals as goal
 
@@ -26,7 +28,8 @@ returns-in-Err-open-clause-store g c = λ told list early store.
 
 pub returns-in-Err-open-clause-no_store : goal.returns-in-Err-open-clause-no_store
 returns-in-Err-open-clause-no_store g c =
-    chain_refuses the_row.Denot g.D.Disk.tells (g.D.Disk.state c.args.disk.now).present (g.D.Disk.state c.recover.new.disk).present c.in-Ok.newest c.in-Err-open.error c.in-Ok.ensures.answer c.in-Ok.ensures.kept c.in-Err-open.ensures.opened
+    subst (λ (m : State). TellsNoStore {T = the_row.Denot} g.D.Disk.tells (g.D.Disk.state c.args.disk.now).present m.present (Err c.in-Err-open.error)) (sym c.open.ensures.state)
+    (chain_refuses the_row.Denot g.D.Disk.tells (g.D.Disk.state c.args.disk.now).present (g.D.Disk.state c.recover.new.disk).present c.in-Ok.newest c.in-Err-open.error c.in-Ok.ensures.answer c.in-Ok.ensures.kept c.in-Err-open.ensures.opened)
 
 pub returns-in-Ok-new-clause-begins : goal.returns-in-Ok-new-clause-begins
 returns-in-Ok-new-clause-begins g c = λ told list early store.
