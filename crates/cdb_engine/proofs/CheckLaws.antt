@@ -70,12 +70,14 @@ module _ {D : Type 0} (tells : Type 0) (clock count : D → ℕ) (since : D → 
       record {
         is = record {
           told = f.told;
+          opened_after = f.opened_after;
           earlier = let e = f.earlier in let n = looks.time.same in omega (arith, e, n);
           no_fewer = let e = f.no_fewer in let l = looks.later in omega (arith, e, l);
           begun = f.begun;
           has_begun = f.has_begun;
           tracks = subst (λ (d : disk.State). Tracks held d s) (sym looks.state) f.tracks;
           images = λ m was. f.images m (looks.time.nothing_else origin.store.moment m was);
+          later_images = λ m was. f.later_images m (looks.time.nothing_else origin.opened m was);
           halt = f.halt;
         };
       }

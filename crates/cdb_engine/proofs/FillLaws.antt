@@ -1,7 +1,10 @@
 -- Publications that are drawn, one after another.
-use Rattle.std.proofs.Common.{◌≡◌, ℕ, zero, suc, ◌+◌, ◌*◌, ◌<◌, ℤ, pos, negsuc, ◌+ℤ◌, ◌≤ℤ◌, List, [], ◌∷◌, ◌++◌, length, Ok, Err, refl, sym, ◌∙◌, ap, subst, arith}
+use Rattle.std.proofs.Common.{◌≡◌, ℕ, zero, suc, ◌+◌, ◌*◌, ◌<◌, ℤ, pos, negsuc, ◌+ℤ◌, ◌≤ℤ◌, List, [], ◌∷◌, ◌++◌, length}
+use Rattle.std.proofs.Common.{Ok, Err, refl, sym, ◌∙◌, ap, subst, arith}
 use Rattle.std.proofs.lemmas.Int.{ints}
-use Rattle.cdb_model.specs.Publications.{Publication, sources_of, Touches}
+use Rattle.cdb_grid.specs.declared.tile.Tile.{Tile}
+use Rattle.cdb_source.specs.declared.source.Source.{Source}
+use Rattle.cdb_model.specs.Publications.{Publication, sources_of, publication_of, IsEntryCount, Touches}
 use Rattle.cdb_model.specs.Stores.{Which, known, any, store_kind, any_store, known_store}
 use Rattle.cdb_model.specs.Transitions.{StateIn}
 use Rattle.cdb_files.specs.Disk as disk
@@ -11,9 +14,9 @@ use Rattle.cdb_engine.specs.Stays.{Stays, bare_of}
 use Rattle.cdb_engine.specs.Tracks.{Origin, Leads}
 use Rattle.cdb_generate.specs.Generator.{passed, state_next, PublicationDrawn}
 use Rattle.cdb_generate.specs.Generated.{GeneratedSoFar}
-use Rattle.cdb_generate.specs.Sums.{tiles_sum}
+use Rattle.cdb_generate.specs.Sums.{tiles_sum, IsSum}
 use Rattle.cdb_generate.proofs.ListLaws.{in_order}
-use Rattle.cdb_engine.specs.Filling.{ComeAfter, AreMade, StopsAfter}
+use Rattle.cdb_engine.specs.Filling.{IsDrawnFileCount, ComeAfter, AreMade, StopsAfter}
 use Rattle.cdb_engine.specs.Populating.{IsAtRest, IsDrawnNext, IsWholePublication, PublishesIn}
 use Rattle.cdb_engine.specs.declared.errors.PopulateError.{PopulateError}
 use Rattle.cdb_engine.specs.declared.drawn_publication.Published.{Published}
@@ -33,11 +36,12 @@ none_made w s start New rest now =
   where
     none : (w : Which) (s : StateIn (store_kind w)) → ComeAfter w s.list start 0 0 (pos 0) s.list
     none known s = in_order.begins s.list start
-    none any s = (omega arith, omega arith)
+    none any s = (omega arith, omega arith, record { drawn = []; are_drawn = tt; number = refl; files_are = refl })
 
 -- the next one, of a store that is known
 pub next_sofar : (from : List Publication) (start done files : ℕ) (sum : ℤ) (mid : StateIn known_store)
-    → GeneratedSoFar from start (passed done start) done files sum mid.list → (next : IsDrawnNext known mid (passed done start))
+    → GeneratedSoFar from start (passed done start) done files sum mid.list
+    → (next : IsDrawnNext known mid (passed done start))
     → GeneratedSoFar from start (passed (done + 1) start) (done + 1) (files + length next.tiles)
     (sum +ℤ tiles_sum (sources_of (mid.list ++ next.planned ∷ [])) next.tiles) (mid.list ++ next.planned ∷ [])
 next_sofar from start done files sum mid sofar next =
@@ -49,15 +53,51 @@ next_sofar from start done files sum mid sofar next =
     (sym (passed_more done start))
     (in_order.more from start (passed done start) done files sum mid.list next.planned next.tiles sofar drawn touched)
 
+-- the tiles of publications have a sum after any list
+some_sum : (earlier list : List Publication) (files : ℕ) → IsEntryCount list files → (sum : ℤ) × IsSum earlier list sum
+some_sum earlier [] files count = (pos 0, refl)
+some_sum earlier (p ∷ list) files count =
+    let rest = some_sum (earlier ++ p ∷ []) list count.1 count.2.1 in (
+      tiles_sum (sources_of (earlier ++ p ∷ [])) count.0 +ℤ rest.0,
+      (count.0, rest.0, (count.2.0, rest.1, refl)),
+    )
+
+-- the tiles of one more that is drawn are counted too
+one_more_drawn : (start done files more : ℕ) (sources : List Source) (tiles : List Tile)
+    → IsDrawnFileCount start done files → PublicationDrawn (passed done start) sources
+    → Touches (publication_of sources) tiles → more ≡ length tiles
+    → IsDrawnFileCount start (done + 1) (files + more)
+one_more_drawn start done files more sources tiles count drawn touched is =
+    let sum = some_sum [] count.drawn files count.files_are in
+    let sofar : GeneratedSoFar [] start (passed done start) done files sum.0 count.drawn = record {
+      made = count.drawn;
+      list_is = refl;
+      counted = count.number;
+      state_is = refl;
+      drawn = count.are_drawn;
+      files_are = count.files_are;
+      sum_is = sum.1;
+    } in
+    let next = in_order.more [] start (passed done start) done files sum.0 count.drawn (publication_of sources) tiles
+    sofar drawn touched in
+    record {
+      drawn = next.made;
+      are_drawn = next.drawn;
+      number = next.counted;
+      files_are = subst (λ (n : ℕ). IsEntryCount next.made (files + n)) (sym is) next.files_are;
+    }
+
 -- one more is complete
-follow_more : (w : Which) (from : (store_kind w).Listed) (start done files : ℕ) (sum : ℤ) (mid new : StateIn (store_kind w))
+follow_more : (w : Which) (from : (store_kind w).Listed) (start done files : ℕ) (sum : ℤ)
+    (mid new : StateIn (store_kind w))
     (published : Published) → ComeAfter w from start done files sum mid.list
     → IsWholePublication w mid (passed done start) published new
     → ComeAfter w from start (done + 1) (files + published.files) (sum +ℤ published.sum) new.list
 follow_more known from start done files sum mid new published follow c =
     let sum_is : published.sum ≡ tiles_sum (sources_of (mid.list ++ c.next.planned ∷ [])) c.next.tiles =
     c.sum_is ∙ ap (λ (l : List Publication). tiles_sum (sources_of l) c.next.tiles) c.list_is in
-    subst (λ (l : List Publication). GeneratedSoFar from start (passed (done + 1) start) (done + 1) (files + published.files)
+    subst (λ (l : List Publication). GeneratedSoFar from start (passed (done + 1) start) (done + 1)
+    (files + published.files)
     (sum +ℤ published.sum) l) (sym c.list_is)
     (subst (λ (z : ℤ). GeneratedSoFar from start (passed (done + 1) start) (done + 1) (files + published.files)
     (sum +ℤ z) (mid.list ++ c.next.planned ∷ [])) (sym sum_is)
@@ -72,8 +112,12 @@ follow_more any from start done files sum mid new published follow c =
     let planned : c.next.planned ≡ length c.next.tiles = c.next.starts.0 in
     let files_are : published.files ≡ length c.next.tiles = c.files_are in
     let before : mid.list.versions ≡ from.versions + done = follow.0 in
-    let counted : mid.list.entries ≡ from.entries + files = follow.1 in
-    (omega (arith, versions, before), omega (arith, entries, planned, files_are, counted))
+    let counted : mid.list.entries ≡ from.entries + files = follow.1 in (
+      omega (arith, versions, before),
+      omega (arith, entries, planned, files_are, counted),
+      one_more_drawn start done files published.files c.next.sources c.next.tiles follow.2 c.next.drawn c.next.touched
+          files_are,
+    )
 
 module _ (w : Which) (s : StateIn (store_kind w)) (start done files : ℕ) (sum : ℤ)
     (Old New : StateIn (store_kind w) → Type 0) (made : Leads (AreMade w s start done files sum) Old) where

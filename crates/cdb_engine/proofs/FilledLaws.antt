@@ -1,5 +1,6 @@
 -- What publications that are drawn leave in a store that is known.
-use Rattle.std.proofs.Common.{◌≡◌, inl, inr, ℕ, ◌+◌, ◌≤◌, ◌<◌, ℤ, pos, List, [], ◌∷◌, ◌++◌, length, Option, None, Some, Result, Ok, Err, refl, sym, ◌∙◌, ap, subst, arith}
+use Rattle.std.proofs.Common.{◌≡◌, inl, inr, ℕ, ◌+◌, ◌≤◌, ◌<◌, ℤ, pos, List, [], ◌∷◌, ◌++◌, length, Option, None, Some}
+use Rattle.std.proofs.Common.{Result, Ok, Err, refl, sym, ◌∙◌, ap, subst, arith}
 use Rattle.std.proofs.lemmas.List.{append-nil, append_assoc, append_cancel_left, length-append}
 use Rattle.cdb_model.specs.Begun.{HasBegun, begun_by, unfinished}
 use Rattle.cdb_model.specs.Images.{Base, StandsSince}
@@ -16,7 +17,7 @@ use Rattle.cdb_chain.specs.Versions as chains
 use Rattle.cdb_publish.specs.declared.publication.Publication as publish
 use Rattle.cdb_engine.specs.Held.{Held}
 use Rattle.cdb_engine.specs.Stays.{Stays}
-use Rattle.cdb_engine.specs.Tracks.{Works, Leads}
+use Rattle.cdb_engine.specs.Tracks.{Works, Origin, Leads}
 use Rattle.cdb_generate.specs.Generator.{passed, AreDrawn}
 use Rattle.cdb_generate.specs.Generated.{GeneratedSoFar, Generates}
 use Rattle.cdb_generate.specs.Sums.{IsSum}
@@ -44,7 +45,8 @@ are_begun from start count done files sum list all few e sofar = record {
   few = few;
   files = files;
   sum = sum;
-  sofar = subst (λ (l : List Publication). GeneratedSoFar from start (passed done start) done files sum l) (sym e) sofar;
+  sofar = subst (λ (l : List Publication). GeneratedSoFar from start (passed done start) done files sum l)
+      (sym e) sofar;
 }
 
 -- a state in which none is going or given up knows of those that are complete
@@ -124,7 +126,8 @@ clean list None None (Some work) (Some faults) chain d idle running works = absu
 clean list None (Some x) work halted chain d idle running works = let e : Some x ≡ None = running in absurd (cc)
 clean list (Some now) given work halted chain d idle running works = let e : Some now ≡ None = idle in absurd (cc)
 
-filled : (base : Base) (start count : ℕ) (Left : FileMap → Type 0) (begun : List Publication) (s : KnownState) (made : Made)
+filled : (base : Base) (start count : ℕ) (Left : FileMap → Type 0) (begun : List Publication) (s : KnownState)
+    (made : Made)
     → HasBegun base.list s begun → AreMade known (start_at base.list) start count made.files made.sum s
     → made.versions ≡ length s.list → ((m : FileMap) → Left m → Stands m s.list) → FillsWith base count Left begun made
 filled base start count Left begun s made has are versions left =
@@ -148,11 +151,15 @@ filled base start count Left begun s made has are versions left =
 -- ---- the whole
 
 module _ {D : Type 0} (tells : Type 0) (clock count : D → ℕ) (since : D → ℕ → FileMap → Type 0) (state : D → disk.State)
-    (base : Base) (faults start most : ℕ) (d : D) (held : Held) where
+    (origin : Origin) (start most : ℕ) (d : D) (held : Held) where
+  abbrev base : Base
+  base = origin.store
+
   pub populates : (result : Result Made PopulateError)
-      → Leads (PopulatesIn known (start_at base.list) start most result)
-      (Stays tells clock count since state (record { store = base; faults = faults }) d held known)
-      → Populates base start most (since d base.moment) (IsImage (state d)) result
+      → Leads (PopulatesIn known (start_at origin.store.list) start most result)
+      (Stays tells clock count since state origin d held known)
+      → Populates origin.store start most (since d origin.store.moment) (since d origin.opened)
+      (IsImage (state d)) result
   populates (Ok made) led =
       let f = led.now.is in
       let s : KnownState = led.next in
@@ -162,6 +169,7 @@ module _ {D : Type 0} (tells : Type 0) (clock count : D → ℕ) (since : D → 
         generates = generates base start most (since d base.moment) f.begun s f.has_begun
             (are_begun base.list start most most made.files made.sum s.list (begun_by s) (omega arith)
             (all_complete s s.list refl are.at_rest.going are.at_rest.halted) are.follow) f.images;
+        later_images = f.later_images;
         filled = filled base start most (IsImage (state d)) f.begun s made f.has_begun are led.step.1
             (clean s.list s.going s.halted held.work held.halted held.chain (state d) are.at_rest.going
             are.at_rest.halted f.tracks.works).whole.stands;
@@ -173,6 +181,7 @@ module _ {D : Type 0} (tells : Type 0) (clock count : D → ℕ) (since : D → 
       generates = generates base start most (since d base.moment) f.begun led.next f.has_begun
           (are_begun base.list start most 0 0 (pos 0) base.list (begun_by led.next) (omega arith)
           (ap begun_by none.1 ∙ append-nil base.list) (in_order.begins base.list start)) f.images;
+      later_images = f.later_images;
       filled = tt;
       undamaged = subst (λ (e : PopulateError). IsUndamaged e) (sym none.0) tt;
     }
@@ -181,6 +190,7 @@ module _ {D : Type 0} (tells : Type 0) (clock count : D → ℕ) (since : D → 
       generates = generates base start most (since d base.moment) f.begun led.next f.has_begun
           (stopped base.list start most after.done after.files after.sum after.mid after.made.follow after.fewer
           error led.next after.made.at_rest after.stops) f.images;
+      later_images = f.later_images;
       filled = tt;
       undamaged = undamaged after.mid led.next (passed after.done start) error after.stops;
     }

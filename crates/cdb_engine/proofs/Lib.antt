@@ -9,10 +9,12 @@ pub mod StepTracks
 pub mod PublishTracks
 pub mod TileTracks
 pub mod OpenTracks
+pub mod OpenStays
 pub mod SessionTracks
 pub mod StepThen
 pub mod CheckLaws
 pub mod StepLaws
+pub mod OtherLaws
 pub mod BeginLaws
 pub mod ListLaws
 pub mod AskLaws

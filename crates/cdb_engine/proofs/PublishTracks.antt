@@ -6,7 +6,7 @@ use Rattle.cdb_source.specs.Reached.{IsTouched, IsLoad}
 use Rattle.cdb_source.specs.declared.source.Source.{Source}
 use Rattle.cdb_model.specs.Begun.{unfinished}
 use Rattle.cdb_model.specs.Events as machine
-use Rattle.cdb_model.specs.Images.{Base, StandsSince}
+use Rattle.cdb_model.specs.Images.{Base, StandsFrom, StandsSince}
 use Rattle.cdb_model.specs.KnownStore.{KnownState, Going}
 use Rattle.cdb_model.specs.Maps.{FileMap}
 use Rattle.cdb_model.specs.Publications.{Publication, heads_of, step_count}
@@ -50,6 +50,7 @@ module _ {D : Type 0} (tells : Type 0) (clock count : D → ℕ) (since : D → 
   pub follows_room : (s : KnownState) → Follows tells origin (clock d) (count d) (since d) (state d) held s → Follows tells origin (clock d) (count d) (since d) (state d) (record held { chain = chain' }) s
   follows_room s f = record {
     told = f.told;
+    opened_after = f.opened_after;
     earlier = f.earlier;
     no_fewer = f.no_fewer;
     begun = f.begun;
@@ -63,6 +64,7 @@ module _ {D : Type 0} (tells : Type 0) (clock count : D → ℕ) (since : D → 
       kept = f.tracks.kept;
     };
     images = f.images;
+    later_images = f.later_images;
     halt = f.halt;
   }
 
@@ -162,9 +164,18 @@ resting held d s none running t =
     by (Some now) (Some x) a b w = absurd w
 
 -- the first of those begun are the first of one more
-since_more : (base : Base) (begun : List Publication) (x : Publication) (m : FileMap) → StandsSince base begun m → StandsSince base (begun ++ x ∷ []) m
-since_more base begun x m (inl i) =
-    inl record { first = i.first; later = i.later ++ x ∷ []; joined = ap (λ l. l ++ x ∷ []) i.joined ∙ append_assoc i.first i.later (x ∷ []); stands = i.stands }
+from_more : (from begun : List Publication) (x : Publication) (m : FileMap) → StandsFrom from begun m
+    → StandsFrom from (begun ++ x ∷ []) m
+from_more from begun x m i = record {
+  first = i.first;
+  later = i.later ++ x ∷ [];
+  joined = ap (λ l. l ++ x ∷ []) i.joined ∙ append_assoc i.first i.later (x ∷ []);
+  stands = i.stands;
+}
+
+since_more : (base : Base) (begun : List Publication) (x : Publication) (m : FileMap) → StandsSince base begun m
+    → StandsSince base (begun ++ x ∷ []) m
+since_more base begun x m (inl i) = inl (from_more base.list begun x m i)
 since_more base begun x m (inr e) = inr e
 
 -- all steps of a publication that begins are left
@@ -235,6 +246,7 @@ module _ {D : Type 0} (tells : Type 0) (clock count : D → ℕ) (since : D → 
         };
         now = record {
           told = f.told;
+          opened_after = f.opened_after;
           earlier = f.earlier;
           no_fewer = f.no_fewer;
           begun = f.begun ++ x ∷ [];
@@ -255,6 +267,7 @@ module _ {D : Type 0} (tells : Type 0) (clock count : D → ℕ) (since : D → 
             kept = f.tracks.kept;
           };
           images = λ m was. since_more origin.store f.begun x m (f.images m was);
+          later_images = λ m was. from_more origin.store.list f.begun x m (f.later_images m was);
           halt = f.halt;
         };
       }

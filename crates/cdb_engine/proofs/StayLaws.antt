@@ -70,12 +70,14 @@ module _ {D : Type 0} (tells : Type 0) (clock count : D → ℕ) (since : D → 
       (subst (λ (h : Held). Follows tells origin (clock d) (count d) (since d) (state d) h (record s { pending = new.pending; sessions = new.sessions; opened = new.opened })) (sym change.engine)
       record {
         told = f.told;
+        opened_after = f.opened_after;
         earlier = f.earlier;
         no_fewer = f.no_fewer;
         begun = f.begun;
         has_begun = record { complete = f.has_begun.complete; list_is = f.has_begun.list_is; begun_is = f.has_begun.begun_is };
         tracks = record { records = f.tracks.records; pending = refl; sessions = refl; opened = refl; works = f.tracks.works; kept = f.tracks.kept };
         images = f.images;
+        later_images = f.later_images;
         halt = f.halt;
       })
 

@@ -179,14 +179,34 @@ module _ {D : Type 0} (tells : Type 0) (clock count : D → ℕ) (since : D → 
     adds : (result : Result Progress StepError) → Made result → AddsOnly clock since old new (DuringStep s.list i.now.publication i.now.left)
     adds result k = during follows.told s follows.tracks result k
 
-    images_of : (result : Result Progress StepError) → Made result → (m : FileMap) → since new origin.store.moment m → StandsSince origin.store follows.begun m
-    images_of result k m was = by ((adds result k).nothing_else origin.store.moment m follows.earlier was)
-      where
-        by : since old origin.store.moment m ⊎ DuringStep s.list i.now.publication i.now.left m → StandsSince origin.store follows.begun m
-        by (inl before) = follows.images m before
-        by (inr during) = inl (from_step origin.store.list follows.has_begun.complete follows.begun s.list i.now.publication i.now.left m follows.has_begun.list_is begun_of during)
+    -- a crash in this step leaves what stands for the list followed by the first of the publications begun
+    during_begun : (m : FileMap) → DuringStep s.list i.now.publication i.now.left m
+        → StandsFrom origin.store.list follows.begun m
+    during_begun m during = from_step origin.store.list follows.has_begun.complete follows.begun s.list i.now.publication
+        i.now.left m follows.has_begun.list_is begun_of during
 
-    earlier_of : (result : Result Progress StepError) → Made result → origin.store.moment ≤ clock new
+    moment_earlier : origin.store.moment ≤ clock old
+    moment_earlier = let o = follows.opened_after in let e = follows.earlier in omega (arith, o, e)
+
+    images_of : (result : Result Progress StepError) → Made result → (m : FileMap)
+        → since new origin.store.moment m → StandsSince origin.store follows.begun m
+    images_of result k m was = by ((adds result k).nothing_else origin.store.moment m moment_earlier was)
+      where
+        by : since old origin.store.moment m ⊎ DuringStep s.list i.now.publication i.now.left m
+            → StandsSince origin.store follows.begun m
+        by (inl before) = follows.images m before
+        by (inr during) = inl (during_begun m during)
+
+    later_images_of : (result : Result Progress StepError) → Made result → (m : FileMap) → since new origin.opened m
+        → StandsFrom origin.store.list follows.begun m
+    later_images_of result k m was = by ((adds result k).nothing_else origin.opened m follows.earlier was)
+      where
+        by : since old origin.opened m ⊎ DuringStep s.list i.now.publication i.now.left m
+            → StandsFrom origin.store.list follows.begun m
+        by (inl before) = follows.later_images m before
+        by (inr during) = during_begun m during
+
+    earlier_of : (result : Result Progress StepError) → Made result → origin.opened ≤ clock new
     earlier_of result k = let n = (adds result k).later in let e = follows.earlier in omega (arith, e, n)
 
     no_fewer_of : (result : Result Progress StepError) → Made result → origin.faults ≤ count new
@@ -220,6 +240,7 @@ module _ {D : Type 0} (tells : Type 0) (clock count : D → ℕ) (since : D → 
           step = record { now = i.now; going = i.going; running = i.running; more = omega (arith, l, more); next = refl };
           now = record {
             told = follows.told;
+            opened_after = follows.opened_after;
             earlier = earlier_of r k;
             no_fewer = no_fewer_of r k;
             begun = follows.begun;
@@ -233,6 +254,7 @@ module _ {D : Type 0} (tells : Type 0) (clock count : D → ℕ) (since : D → 
               kept = follows.tracks.kept;
             };
             images = images_of r k;
+            later_images = later_images_of r k;
             halt = tt;
           };
         }
@@ -250,6 +272,7 @@ module _ {D : Type 0} (tells : Type 0) (clock count : D → ℕ) (since : D → 
           step = record { now = i.now; going = i.going; running = i.running; last = sym l ∙ last; version_is = k.progress.1 ∙ can.next ∙ ap (λ (n : ℕ). n + 1) follows.tracks.records.count; next = refl };
           now = record {
             told = follows.told;
+            opened_after = follows.opened_after;
             earlier = earlier_of r k;
             no_fewer = no_fewer_of r k;
             begun = follows.begun;
@@ -268,6 +291,7 @@ module _ {D : Type 0} (tells : Type 0) (clock count : D → ℕ) (since : D → 
               kept = all_map (IsFileOf s.list) (IsFileOf next.list) held.kept (file_more s.list i.now.publication) follows.tracks.kept;
             };
             images = images_of r k;
+            later_images = later_images_of r k;
             halt = tt;
           };
         }
@@ -281,6 +305,7 @@ module _ {D : Type 0} (tells : Type 0) (clock count : D → ℕ) (since : D → 
           step = record { now = i.now; going = i.going; running = i.running; next = refl };
           now = record {
             told = follows.told;
+            opened_after = follows.opened_after;
             earlier = earlier_of r k;
             no_fewer = no_fewer_of r k;
             begun = follows.begun;
@@ -294,6 +319,7 @@ module _ {D : Type 0} (tells : Type 0) (clock count : D → ℕ) (since : D → 
               kept = follows.tracks.kept;
             };
             images = images_of r k;
+            later_images = later_images_of r k;
             halt = rose_later origin.faults (count old) (count new) follows.no_fewer k.cause.failed;
           };
         }

@@ -234,6 +234,7 @@ module _ {D : Type 0} (tells : Type 0) (clock count : D → ℕ) (since : D → 
         step = known_asks (state old).present s.list held.chain f.tracks.records has tells f.told old new id t were now files s refl (sessions_are ∙ f.tracks.sessions) result c served;
         now = record {
           told = f.told;
+          opened_after = f.opened_after;
           earlier = let e = f.earlier in let n = rests.same in omega (arith, e, n);
           no_fewer = let e = f.no_fewer in omega (arith, e, later);
           begun = f.begun;
@@ -247,6 +248,7 @@ module _ {D : Type 0} (tells : Type 0) (clock count : D → ℕ) (since : D → 
             kept = kept_then (state old).present s.list held.chain f.tracks.records has tells f.told old new id t were now files result served;
           };
           images = λ m was. f.images m (rests.nothing_else origin.store.moment m was);
+          later_images = λ m was. f.later_images m (rests.nothing_else origin.opened m was);
           halt = f.halt;
         };
       }

@@ -2,6 +2,7 @@ pub mod Checks
 pub mod Filling
 pub mod Held
 pub mod Loading
+pub mod OtherSizes
 pub mod Populating
 pub mod Stays
 pub mod StepSizes

@@ -5,10 +5,6 @@ use Rattle.cdb_source.specs.declared.source.Source.{Source}
 use Rattle.cdb_model.specs.Publications.{publication_of, sources_of, Touches}
 use Rattle.cdb_model.specs.Stores.{Kind, Which, known, any, store_kind}
 use Rattle.cdb_model.specs.Transitions.{StateIn, HasEntriesIn, IsFullOfVersionsIn}
-use Rattle.cdb_publish.specs.declared.errors.Progress.TheVariants as progress
-use Rattle.cdb_sessions.specs.declared.errors.TileError.TheVariants as tile
-use Rattle.cdb_engine.specs.declared.errors.AdvanceError.TheVariants as advance
-use Rattle.cdb_engine.specs.declared.errors.PublishError.TheVariants as publish
 use Rattle.cdb_generate.specs.Generator.{PublicationDrawn}
 use Rattle.cdb_generate.specs.Sums.{tiles_sum}
 use Rattle.cdb_engine.specs.declared.errors.PopulateError.{PopulateError}
@@ -72,9 +68,3 @@ abbrev pub PublishesIn : (w : Which) → StateIn (store_kind w) → ℕ → Resu
     → StateIn (store_kind w) → Type 0
 PublishesIn w old x (Ok published) new = IsWholePublication w old x published new
 PublishesIn w old x (Err error) new = StopsBy w old x error new
-
--- ---- a publication is begun
-
--- ---- its steps
-
--- ---- its tiles are asked for

@@ -4,7 +4,7 @@ use Rattle.std.specs.List.{AllByRecursion}
 use Rattle.cdb_source.specs.Reached.{Reached}
 use Rattle.cdb_model.specs.Begun.{HasBegun}
 use Rattle.cdb_model.specs.Causes.{Rose}
-use Rattle.cdb_model.specs.Images.{Base, StandsSince}
+use Rattle.cdb_model.specs.Images.{Base, StandsFrom, StandsSince}
 use Rattle.cdb_model.specs.KnownStore.{KnownState, Going}
 use Rattle.cdb_model.specs.Maps.{FileMap}
 use Rattle.cdb_model.specs.Publications.{Publication, sources_in, sources_of, heads_of, step_count}
@@ -59,22 +59,26 @@ pub record Tracks (held : Held) (d : disk.State) (s : KnownState) : Type 0 where
   pub works : Works s.list s.going s.halted held.work held.halted held.chain d
   pub kept : AllByRecursion (IsFileOf s.list) held.kept
 
--- What a run began with: the store, and how many calls of the disk had failed.
+-- What a run began with: the store, the clock at which its opening ended, and how many calls of the disk had failed.
 pub record Origin : Type 0 where
   pub store : Base
+  pub opened : ℕ
   pub faults : ℕ
 
 -- The same of an engine whose run began so: whatever a crash since that moment may have left stands for the list
--- followed by the first of the publications begun, and where the engine was halted, calls of the disk had failed since.
+-- followed by the first of the publications begun, or, before opening ended, for one of the early lists; since opening
+-- ended it stands for no early list. Where the engine was halted, calls of the disk had failed since the run began.
 pub record Follows (tells : Type 0) (origin : Origin) (clock count : ℕ) (since : ℕ → FileMap → Type 0) (d : disk.State)
     (held : Held) (s : KnownState) : Type 0 where
   pub told : tells
-  pub earlier : origin.store.moment ≤ clock
+  pub opened_after : origin.store.moment ≤ origin.opened
+  pub earlier : origin.opened ≤ clock
   pub no_fewer : origin.faults ≤ count
   pub begun : List Publication
   pub has_begun : HasBegun origin.store.list s begun
   pub tracks : Tracks held d s
   pub images : (m : FileMap) → since origin.store.moment m → StandsSince origin.store begun m
+  pub later_images : (m : FileMap) → since origin.opened m → StandsFrom origin.store.list begun m
   pub halt : IfSome held.halted (λ faults. Rose origin.faults faults)
 
 -- What an event leads to: a next state, in which something holds again.

@@ -1,10 +1,12 @@
 //! One publication that is drawn.
-ghost use Rattle.std.specs.Prelude.{◌≡◌, ℕ, None, IfErr, ◌≤◌, ◌<◌, Some, Err, IfSome, pos, negsuc, ◌≤ℤ◌, length, IfOk, OnOk};
+ghost use Rattle.std.specs.Prelude.{◌≡◌, ℕ, ◌≤◌, ◌<◌, pos, negsuc, ◌≤ℤ◌, length, Some, None, Err};
+ghost use Rattle.std.specs.Prelude.{IfSome, IfOk, IfErr, OnOk};
 ghost use Rattle.cdb_model.specs.Stores.{Which, store_kind, any_store};
 ghost use Rattle.cdb_model.specs.Transitions.{StateIn, GoingIn};
 ghost use Rattle.cdb_engine.specs.Stays.{Stays, bare_of};
 ghost use Rattle.cdb_engine.specs.Tracks.{Origin, Leads};
 ghost use Rattle.cdb_generate.specs.Generator.{PublicationDrawn, state_next};
+ghost use Rattle.cdb_engine.specs.OtherSizes.{StepFindsOther, FillFindsOther};
 ghost use Rattle.cdb_engine.specs.Populating.{IsAtRest, PublishesIn};
 ghost use Rattle.cdb_engine.specs.inside.Populating.{begun_of, BeginsDrawn, ended_by, FinishesSteps};
 ghost use Rattle.cdb_model.specs.Causes.{Rose};
@@ -32,6 +34,7 @@ pub struct Published {
 fn begin_error(answer: Result<Begun, PublishError>) -> Result<(), PopulateError>
     ensures begun { result ≡ begun_of answer }
     ensures no_fault { IfErr result (λ error. error ≡ PopulateError.Fault → ⊥) }
+    ensures other { IfErr result FillFindsOther }
 {
     match answer {
         Ok(_) => Ok(()),
@@ -53,6 +56,7 @@ fn begin_drawn<D: Disk>(
         → BeginsDrawn w s result (Stays D.tells D.clock D.fault_count D.since D.state origin disk.new engine.new w) }
     ensures disk { disk.new ≡ disk.old }
     ensures no_fault { IfErr result (λ error. error ≡ PopulateError.Fault → ⊥) }
+    ensures other { IfErr result FillFindsOther }
 {
     begin_error(engine.publish(alloc, disk))
 }
@@ -62,6 +66,7 @@ fn step_end(step: Result<Progress, AdvanceError>) -> Option<Result<(), PopulateE
     ensures ended { result ≡ ended_by step }
     ensures cause { (before now : ℕ) → AdvanceCause step before now
         → IfSome result (λ end. end ≡ Err PopulateError.Fault → Rose before now) }
+    ensures other { IfErr step StepFindsOther → IfSome result (λ end. IfErr end FillFindsOther) }
 {
     match step {
         Ok(Progress::Going) => None,
@@ -82,6 +87,7 @@ fn finish<D: Disk>(engine: &mut Engine, disk: &mut D) -> Result<(), PopulateErro
         → s.going ≡ Some now → s.halted ≡ None → 0 < now.left
         → FinishesSteps w s now.publication result
         (Stays D.tells D.clock D.fault_count D.since D.state origin disk.new engine.new w) }
+    ensures other { IfErr result FillFindsOther }
     ensures later { D.fault_count disk.old ≤ D.fault_count disk.new }
     ensures cause { result ≡ Err PopulateError.Fault → Rose (D.fault_count disk.old) (D.fault_count disk.new) }
 {
@@ -112,6 +118,7 @@ pub fn publish_one<D: Disk>(
         → Stays D.tells D.clock D.fault_count D.since D.state origin disk.old engine.old w s → IsAtRest (store_kind w) s
         → Leads (PublishesIn w s state.old result)
         (Stays D.tells D.clock D.fault_count D.since D.state origin disk.new engine.new w) }
+    ensures other { IfErr result FillFindsOther }
     ensures state { OnOk result (state.new ≡ state_next state.old) }
     ensures few { IfOk result (λ published. published.files ≤ 16384) }
     ensures least { IfOk result (λ published. negsuc 562949953421311 ≤ℤ published.sum) }

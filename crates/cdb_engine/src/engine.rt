@@ -1,4 +1,5 @@
-ghost use Rattle.std.specs.Prelude.{◌≡◌, ◌++◌, ◌∷◌, ◌+◌, ◌<◌, ◌≤◌, [], None, length, is_some, IfSome, IfOk, IfErr, OnOk, OnErr, Err};
+ghost use Rattle.std.specs.Prelude.{◌≡◌, ◌++◌, ◌∷◌, ◌+◌, ◌<◌, ◌≤◌, [], None, length, is_some, Err};
+ghost use Rattle.std.specs.Prelude.{IfSome, IfOk, IfErr, OnOk, OnErr};
 ghost use Rattle.cdb_source.specs.declared.source.Source as given;
 ghost use Rattle.cdb_model.specs.Causes.{Rose};
 ghost use Rattle.cdb_model.specs.Events as machine;
@@ -6,12 +7,15 @@ ghost use Rattle.cdb_model.specs.Grammar.{InlineSource, FileSource};
 ghost use Rattle.cdb_model.specs.KnownStore.{KnownState};
 ghost use Rattle.cdb_model.specs.Maps.{Content};
 ghost use Rattle.cdb_model.specs.Stores.{Which, store_kind};
-ghost use Rattle.cdb_model.specs.Transitions.{StateIn, IsReadyIn, InlineLineIn, SourceLineIn, OpenLineIn, TileLineIn, CloseLineIn, VersionsLineIn};
+ghost use Rattle.cdb_model.specs.Transitions.{StateIn, IsReadyIn, InlineLineIn, SourceLineIn};
+ghost use Rattle.cdb_model.specs.Transitions.{OpenLineIn, TileLineIn, CloseLineIn, VersionsLineIn};
 ghost use Rattle.cdb_files.specs.Moments.{AddsOnly, Rests};
 ghost use Rattle.cdb_sessions.specs.Sessions.{TileOutcome, AreCurrent, ServesCurrent};
 ghost use Rattle.cdb_engine.specs.Held.{sessions_part};
+ghost use Rattle.cdb_engine.specs.OtherSizes.{StepFindsOther, TileFindsOther};
 ghost use Rattle.cdb_engine.specs.StepSizes.{TellsStep};
-ghost use Rattle.cdb_engine.specs.StoreAnswers.{ready_answer, session_answer, close_answer, advance_answer, tile_answer, HasBytes, TriesIn, HaltsBy, AdvanceCause, steps_left};
+ghost use Rattle.cdb_engine.specs.StoreAnswers.{ready_answer, session_answer, close_answer, advance_answer};
+ghost use Rattle.cdb_engine.specs.StoreAnswers.{tile_answer, HasBytes, TriesIn, HaltsBy, AdvanceCause, steps_left};
 ghost use Rattle.cdb_engine.specs.Stays.{Stays, Shows, ChangesAlike};
 ghost use Rattle.cdb_engine.specs.Tracks.{Origin, Tracks, Leads, DuringNow};
 
@@ -64,7 +68,8 @@ impl Engine {
         ensures gives { IfErr result (λ error. (w : Which) (s : StateIn (store_kind w)) (words : InlineSource)
             → Shows self.now w s → InlineLineIn (store_kind w) s words (ready_answer error) s) }
         ensures loads { IfErr result (λ error. (w : Which) (s : StateIn (store_kind w)) (words : FileSource)
-            (content : Content) → Shows self.now w s → SourceLineIn (store_kind w) s words content (ready_answer error) s) }
+            (content : Content) → Shows self.now w s
+            → SourceLineIn (store_kind w) s words content (ready_answer error) s) }
         ensures running { OnOk result (self.now.halted ≡ None) }
         ensures idle { OnOk result (self.now.work ≡ None) }
         ensures room { OnOk result (length self.now.pending < 64) }
@@ -147,6 +152,7 @@ impl Engine {
             → AddsOnly D.clock D.since disk.old disk.new (DuringNow s.list s.going) }
         ensures sizes { IfSome self.old.work (λ work. TellsStep D.tells (D.state disk.old).present work
             self.old.chain.records (D.read_count disk.old) (D.read_count disk.new) result) }
+        ensures other { IfErr result StepFindsOther }
         ensures halt { HaltsBy result self.old.halted self.new.halted (D.fault_count disk.new) }
         ensures reply { self.new.reply ≡ self.old.reply }
         ensures kept { self.new.kept ≡ self.old.kept }
@@ -213,6 +219,7 @@ impl Engine {
         ensures current { D.tells → AreCurrent (D.state disk.old).present self.old.kept
             → ServesCurrent (D.state disk.old).present self.old.sessions self.old.chain id tile.now
             (sessions_part self.new) result }
+        ensures other { IfErr result TileFindsOther }
         ensures bytes { HasBytes result self.new.reply }
         ensures state { D.state disk.new ≡ D.state disk.old }
         ensures time { Rests (D.clock disk.old) (D.clock disk.new) (D.since disk.old) (D.since disk.new) }

@@ -1,8 +1,7 @@
 //! Publications that are drawn, one after another.
-ghost use Rattle.std.specs.Prelude.{◌≡◌, ℕ, ◌≤◌, length, IfOk, Err};
+ghost use Rattle.std.specs.Prelude.{◌≡◌, ℕ, ◌≤◌, length, IfOk, IfErr, Err};
 ghost use Rattle.cdb_files.specs.Disk.{IsImage};
 ghost use Rattle.cdb_model.specs.Causes.{Rose};
-ghost use Rattle.cdb_model.specs.Images.{Base};
 ghost use Rattle.cdb_model.specs.KnownStore.{start_at};
 ghost use Rattle.cdb_model.specs.Stores.{Which, store_kind, known, any_store};
 ghost use Rattle.cdb_model.specs.Transitions.{StateIn};
@@ -10,6 +9,7 @@ ghost use Rattle.cdb_engine.specs.Stays.{Stays, bare_of};
 ghost use Rattle.cdb_engine.specs.Tracks.{Origin, Leads};
 ghost use Rattle.cdb_engine.specs.Filling.{PopulatesIn, Populates};
 ghost use Rattle.cdb_engine.specs.inside.Filling.{FillsIn};
+ghost use Rattle.cdb_engine.specs.OtherSizes.{FillFindsOther};
 ghost use Rattle.cdb_engine.specs.Populating.{IsAtRest};
 
 use crate::drawn_publication::{Published, publish_one};
@@ -52,6 +52,7 @@ fn fill<D: Disk>(
         → Stays D.tells D.clock D.fault_count D.since D.state origin disk.old engine.old w s → IsAtRest (store_kind w) s
         → Leads (FillsIn w s start count result)
         (Stays D.tells D.clock D.fault_count D.since D.state origin disk.new engine.new w) }
+    ensures other { IfErr result FillFindsOther }
     ensures later { D.fault_count disk.old ≤ D.fault_count disk.new }
     ensures cause { result ≡ Err PopulateError.Fault → Rose (D.fault_count disk.old) (D.fault_count disk.new) }
 {
@@ -90,10 +91,12 @@ pub fn populate<D: Disk>(
         → Stays D.tells D.clock D.fault_count D.since D.state origin disk.old engine.old w s → IsAtRest (store_kind w) s
         → Leads (PopulatesIn w s start count result)
         (Stays D.tells D.clock D.fault_count D.since D.state origin disk.new engine.new w) }
-    ensures populates { (base : Base) (faults : ℕ)
-        → Stays D.tells D.clock D.fault_count D.since D.state (record { store = base; faults = faults }) disk.old
-        engine.old known (start_at base.list)
-        → Populates base start count (D.since disk.new base.moment) (IsImage (D.state disk.new)) result }
+    ensures populates { (origin : Origin)
+        → Stays D.tells D.clock D.fault_count D.since D.state origin disk.old engine.old known
+        (start_at origin.store.list)
+        → Populates origin.store start count (D.since disk.new origin.store.moment) (D.since disk.new origin.opened)
+        (IsImage (D.state disk.new)) result }
+    ensures other { IfErr result FillFindsOther }
     ensures later { D.fault_count disk.old ≤ D.fault_count disk.new }
     ensures cause { result ≡ Err PopulateError.Fault → Rose (D.fault_count disk.old) (D.fault_count disk.new) }
 {

@@ -1,15 +1,15 @@
 //! A store is opened.
-ghost use Rattle.std.specs.Prelude.{◌≡◌, ◌≤◌, List, [], ◌∷◌, IfOk, IfErr, Err};
+ghost use Rattle.std.specs.Prelude.{◌≡◌, ℕ, ◌≤◌, List, [], ◌∷◌, IfOk, IfErr, Err};
 ghost use Rattle.cdb_source.specs.declared.source.Source as given;
 ghost use Rattle.cdb_model.specs.Causes.{Rose};
-ghost use Rattle.cdb_model.specs.Images.{StandsForOne};
+ghost use Rattle.cdb_model.specs.Images.{Base, StandsForOne};
 ghost use Rattle.cdb_model.specs.KnownStore.{start_at};
-ghost use Rattle.cdb_model.specs.Stores.{any_store};
+ghost use Rattle.cdb_model.specs.Stores.{known, any_store};
 ghost use Rattle.cdb_model.specs.Transitions.{IsFreshIn};
 ghost use Rattle.cdb_files.specs.Moments.{AddsOnly};
 ghost use Rattle.cdb_recover.specs.Answers.{KeepsStore};
 ghost use Rattle.cdb_engine.specs.Checks.{AreOpened};
-ghost use Rattle.cdb_engine.specs.Stays.{bare_of};
+ghost use Rattle.cdb_engine.specs.Stays.{Stays, bare_of};
 ghost use Rattle.cdb_engine.specs.Store.{IsStore, IsStoreFound, TellsNoStore};
 ghost use Rattle.cdb_engine.specs.inside.Store.{open_error_of};
 ghost use Rattle.cdb_engine.specs.Tracks.{Tracks};
@@ -41,6 +41,11 @@ impl Engine {
         ensures begins { D.tells → (list : List (List given.Source)) (early : List (List (List given.Source)))
             → IsStore list early (D.state disk.old)
             → IfOk result (λ engine. Tracks engine (D.state disk.new) (start_at list)) }
+        ensures follows { D.tells → (base : Base) (faults : ℕ) → base.moment ≡ D.clock disk.old
+            → IsStore base.list base.early (D.state disk.old) → faults ≤ D.fault_count disk.new
+            → IfOk result (λ engine. Stays D.tells D.clock D.fault_count D.since D.state
+            (record { store = base; opened = D.clock disk.new; faults = faults }) disk.new engine known
+            (start_at base.list)) }
         ensures fresh { IfOk result (λ engine. IsFreshIn any_store (bare_of engine)) }
         ensures read { D.tells → IfOk result (λ engine.
             AreOpened (D.state disk.old).present (D.state disk.new).present engine.chain.records) }

@@ -1,5 +1,6 @@
 //! The tiles of the newest version are asked for, and their values are summed.
-ghost use Rattle.std.specs.Prelude.{◌≡◌, ◌≤◌, pos, negsuc, ◌≤ℤ◌, List, length, ℕ, [], ◌∷◌, ◌*◌, All, IfOk, Err};
+ghost use Rattle.std.specs.Prelude.{◌≡◌, ◌≤◌, pos, negsuc, ◌≤ℤ◌, List, length, ℕ, [], ◌∷◌, ◌*◌, All, IfOk, IfErr};
+ghost use Rattle.std.specs.Prelude.{Err};
 ghost use Rattle.cdb_source.specs.declared.source.Source as sources;
 ghost use Rattle.cdb_model.specs.TileFile.{tile_bytes};
 ghost use Rattle.cdb_generate.specs.Sums.{tile_sum, tiles_sum};
@@ -11,6 +12,7 @@ ghost use Rattle.cdb_model.specs.Transitions.{StateIn};
 ghost use Rattle.cdb_source.specs.Reached.{Reached};
 ghost use Rattle.cdb_engine.specs.Stays.{Stays};
 ghost use Rattle.cdb_engine.specs.Tracks.{Origin};
+ghost use Rattle.cdb_engine.specs.OtherSizes.{TileFindsOther, FillFindsOther};
 ghost use Rattle.cdb_engine.specs.Populating.{IsAtRest};
 ghost use Rattle.cdb_engine.specs.inside.Populating.{asked_by, LeavesState, IsOpenAt, Sums};
 
@@ -45,6 +47,7 @@ fn sum_of_file(bytes: &[u8], tile: &Tile, frame: &mut [i16]) -> i64
 fn tile_error(answer: Result<Reply, TileError>) -> Result<(), PopulateError>
     ensures asked { result ≡ asked_by answer }
     ensures fault { result ≡ Err PopulateError.Fault → answer ≡ Err TileError.Fault }
+    ensures other { IfErr answer TileFindsOther → IfErr result FillFindsOther }
 {
     match answer {
         Ok(_) => Ok(()),
@@ -72,6 +75,7 @@ fn sum_tile<D: Disk>(
         → Stays D.tells D.clock D.fault_count D.since D.state origin disk.old engine.old known s
         → IsOpenAt s id version (tile.now ∷ [])
         → IfOk result (λ sum. sum ≡ tile_sum (sources_up_to version s.list) tile.now) }
+    ensures other { IfErr result FillFindsOther }
     ensures least { IfOk result (λ sum. negsuc 34359738367 ≤ℤ sum) }
     ensures most { IfOk result (λ sum. sum ≤ℤ pos 34359738368) }
     ensures frame { length frame.new ≡ length frame.old }
@@ -101,6 +105,7 @@ fn sum_tiles<D: Disk>(
         → Stays D.tells D.clock D.fault_count D.since D.state origin disk.old engine.old known s
         → IsOpenAt s id version tiles.now
         → IfOk result (λ sum. sum ≡ tiles_sum (sources_up_to version s.list) tiles.now) }
+    ensures other { IfErr result FillFindsOther }
     ensures least { IfOk result (λ sum. negsuc 562949953421311 ≤ℤ sum) }
     ensures most { IfOk result (λ sum. sum ≤ℤ pos 562949953421312) }
     ensures frame { length frame.new ≡ length frame.old }
@@ -134,6 +139,7 @@ pub(crate) fn sum_newest<D: Disk>(
         → Stays D.tells D.clock D.fault_count D.since D.state origin disk.old engine.old known s
         → IsAtRest (store_kind known) s → All (λ t. Reached (heads_of (sources_of s.list)) t) tiles.now
         → IfOk result (λ sum. sum ≡ tiles_sum (sources_of s.list) tiles.now) }
+    ensures other { IfErr result FillFindsOther }
     ensures least { IfOk result (λ sum. negsuc 562949953421311 ≤ℤ sum) }
     ensures most { IfOk result (λ sum. sum ≤ℤ pos 562949953421312) }
     ensures frame { length frame.new ≡ length frame.old }

@@ -1,4 +1,5 @@
--- Inside the crate: how the machine goes from one publication that is drawn to the next, over a store that is known and over any.
+-- Inside the crate: how the machine goes from one publication that is drawn to the next, over a store that is known and
+-- over any.
 use Rattle.std.specs.Prelude.{◌≡◌, ℕ, ◌<◌, ℤ, List, [], All, Option, None, Some, Result, Ok, Err}
 use Rattle.cdb_grid.specs.declared.tile.Tile.{Tile}
 use Rattle.cdb_source.specs.Reached.{Reached}
@@ -6,7 +7,7 @@ use Rattle.cdb_model.specs.KnownStore.{KnownState}
 use Rattle.cdb_model.specs.Publications.{publication_of, sources_up_to, heads_of, Touches}
 use Rattle.cdb_model.specs.Sessions.{session_of}
 use Rattle.cdb_model.specs.declared.session.Session.{Session}
-use Rattle.cdb_model.specs.Stores.{Kind, Which, known, any, store_kind}
+use Rattle.cdb_model.specs.Stores.{Kind, Which, store_kind}
 use Rattle.cdb_model.specs.Transitions.{StateIn, HasEntriesIn, IsFullOfVersionsIn}
 use Rattle.cdb_publish.specs.declared.errors.Progress.{Progress}
 use Rattle.cdb_publish.specs.declared.errors.Progress.TheVariants as progress
@@ -20,7 +21,6 @@ use Rattle.cdb_engine.specs.declared.errors.PublishError.TheVariants as publish
 use Rattle.cdb_engine.specs.declared.reply.Begun.{Begun}
 use Rattle.cdb_engine.specs.declared.errors.PopulateError.{PopulateError}
 use Rattle.cdb_engine.specs.declared.errors.PopulateError.TheVariants.{Memory, Fault, Entries, Versions, Damaged}
-use Rattle.cdb_engine.specs.declared.drawn_publication.Published.{Published}
 use Rattle.cdb_engine.specs.Populating.{IsAtRest}
 
 -- what is answered where one was to be begun of sources that are drawn
@@ -40,8 +40,8 @@ pub record IsGoingOf (w : Which) (s : StateIn (store_kind w)) (Now : StateIn (st
   pub some : 0 < left
   pub now : Now (record s { pending = []; going = Some record { publication = planned; left = left } })
 
-abbrev pub BeginsDrawn : (w : Which) → StateIn (store_kind w) → Result Unit PopulateError → (StateIn (store_kind w) → Type 0)
-    → Type 0
+abbrev pub BeginsDrawn : (w : Which) → StateIn (store_kind w) → Result Unit PopulateError
+    → (StateIn (store_kind w) → Type 0) → Type 0
 BeginsDrawn w s (Ok _) Now = IsGoingOf w s Now
 BeginsDrawn w s (Err Memory) Now = Now s
 BeginsDrawn w s (Err (Entries count)) Now = Now s × HasEntriesIn (store_kind w) s count
@@ -106,7 +106,8 @@ pub record LeadsToRest (k : Kind) (list : k.Listed) (Now : StateIn k → Type 0)
   pub now : Now next
 
 -- a session is opened, tiles are asked for in it, and it is closed
-abbrev pub Sums : (w : Which) → (store_kind w).Listed → Result ℤ PopulateError → (StateIn (store_kind w) → Type 0) → Type 0
+abbrev pub Sums : (w : Which) → (store_kind w).Listed → Result ℤ PopulateError → (StateIn (store_kind w) → Type 0)
+    → Type 0
 Sums w list (Ok sum) Now = LeadsToRest (store_kind w) list Now
 Sums w list (Err Memory) Now = LeadsAfter (store_kind w) list Now
 Sums w list (Err Fault) Now = LeadsAfter (store_kind w) list Now

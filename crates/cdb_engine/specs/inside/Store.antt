@@ -1,5 +1,4 @@
 -- Inside the crate: the disk at the beginning of a run: whole for a list, or left by a fault without a stop.
-use Rattle.cdb_files.specs.Disk as disk
 use Rattle.cdb_chain.specs.declared.open_error.OpenError.{OpenError}
 use Rattle.cdb_chain.specs.declared.open_error.OpenError.TheVariants.{Fault, NotAStore}
 use Rattle.cdb_recover.specs.declared.recover_error.RecoverError.{RecoverError}

@@ -1,19 +1,11 @@
 -- Inside the crate: which answer of the machine each result of an engine over a disk is, and what a step leaves.
 use Rattle.std.specs.Prelude.{◌≡◌, ℕ, Option, Some, None, Result, Ok, Err}
-use Rattle.cdb_model.specs.Events as machine
 use Rattle.cdb_model.specs.Stores.{Kind}
 use Rattle.cdb_model.specs.Transitions.{GoingIn}
-use Rattle.cdb_publish.specs.declared.errors.PlanError.TheVariants as plan
 use Rattle.cdb_publish.specs.declared.errors.Progress.{Progress}
 use Rattle.cdb_publish.specs.declared.errors.Progress.TheVariants as progress
 use Rattle.cdb_publish.specs.declared.errors.StepError.{StepError}
-use Rattle.cdb_publish.specs.declared.errors.StepError.TheVariants as made
 use Rattle.cdb_publish.specs.declared.publication.Publication.{Publication}
-use Rattle.cdb_sessions.specs.declared.errors.SessionError.TheVariants as session
-use Rattle.cdb_sessions.specs.declared.errors.TileError.TheVariants as tile
-use Rattle.cdb_engine.specs.declared.errors.AdvanceError.TheVariants as advance
-use Rattle.cdb_engine.specs.declared.errors.PublishError.TheVariants as publish
-use Rattle.cdb_engine.specs.declared.errors.ReadyError.TheVariants as ready
 
 -- so many steps are left of what is going
 abbrev pub LeftIn : (k : Kind) → Option (GoingIn k) → ℕ → Type 0

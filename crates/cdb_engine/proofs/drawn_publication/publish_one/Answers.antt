@@ -6,6 +6,7 @@ use Rattle.cdb_model.specs.Publications.{sources_of, heads_of}
 use Rattle.cdb_model.specs.Stores.{store_kind}
 use Rattle.cdb_model.proofs.OneLists.{one_touched}
 use Rattle.cdb_generate.specs.Sums.{tiles_sum}
+use Rattle.cdb_engine.specs.OtherSizes.{FillFindsOther}
 use Rattle.cdb_engine.specs.Populating.{IsSumAt}
 use Rattle.cdb_source.specs.declared.source.Source.{Source}
 use Rattle.cdb_engine.specs.Stays.{Stays}
@@ -50,6 +51,9 @@ returns-in-Err-clause-publishes g c = λ w origin s stays at.
     not_yet w s c.args.state.now at c.in-Err.error (record s { pending = new.pending })
     (Stays D.tells D.clock D.fault_count D.since D.state origin d new w) c.in-Err.ensures.memory refl at.going
     at.halted now
+
+pub returns-in-Err-clause-other : goal.returns-in-Err-clause-other
+returns-in-Err-clause-other g c = subst FillFindsOther (sym c.in-Err.ensures.memory) tt
 
 pub returns-in-Err-begin_drawn-clause-publishes : goal.returns-in-Err-begin_drawn-clause-publishes
 returns-in-Err-begin_drawn-clause-publishes g c = λ w origin s stays at.

@@ -28,6 +28,7 @@ publish_one-requires-clause-rest g c =
     let D = g.D.Disk in
     let origin : Origin = record {
       store = record { list = []; early = []; moment = 0 };
+      opened = 0;
       faults = 0;
     } in
     rests_by D.tells D.clock D.fault_count D.since D.state origin c.loop.disk c.loop.engine (bare_of c.args.engine.now)

@@ -13,12 +13,12 @@ returns-in_default-clause-follows g c = λ w origin s stays at.
     (Stays D.tells D.clock D.fault_count D.since D.state origin c.args.disk.now c.args.engine.now w) stays
 
 pub returns-in_default-clause-populates : goal.returns-in_default-clause-populates
-returns-in_default-clause-populates g c = λ base faults stays.
+returns-in_default-clause-populates g c = λ origin stays.
     let D = g.D.Disk in
-    populates D.tells D.clock D.fault_count D.since D.state base faults c.args.start c.args.count c.args.disk.now
+    populates D.tells D.clock D.fault_count D.since D.state origin c.args.start c.args.count c.args.disk.now
     c.args.engine.now _
-    (returns-in_default-clause-follows g c known (record { store = base; faults = faults }) (start_at base.list) stays
-    (at_start base.list))
+    (returns-in_default-clause-follows g c known origin (start_at origin.store.list) stays
+    (at_start origin.store.list))
 
 pub returns-in-Ok-fill-clause-follows : goal.returns-in-Ok-fill-clause-follows
 returns-in-Ok-fill-clause-follows g c = λ w origin s stays at.
@@ -33,12 +33,12 @@ returns-in-Ok-fill-clause-follows g c = λ w origin s stays at.
     (c.in-Ok-fill.ensures.fills w origin s stays at)
 
 pub returns-in-Ok-fill-clause-populates : goal.returns-in-Ok-fill-clause-populates
-returns-in-Ok-fill-clause-populates g c = λ base faults stays.
+returns-in-Ok-fill-clause-populates g c = λ origin stays.
     let D = g.D.Disk in
-    populates D.tells D.clock D.fault_count D.since D.state base faults c.args.start c.args.count c.fill.new.disk
+    populates D.tells D.clock D.fault_count D.since D.state origin c.args.start c.args.count c.fill.new.disk
     c.fill.new.engine _
-    (returns-in-Ok-fill-clause-follows g c known (record { store = base; faults = faults }) (start_at base.list) stays
-    (at_start base.list))
+    (returns-in-Ok-fill-clause-follows g c known origin (start_at origin.store.list) stays
+    (at_start origin.store.list))
 
 pub returns-clause-follows : goal.returns-clause-follows
 returns-clause-follows g c = λ w origin s stays at.
@@ -48,9 +48,9 @@ returns-clause-follows g c = λ w origin s stays at.
     (c.in-Err.ensures.fills w origin s stays at)
 
 pub returns-clause-populates : goal.returns-clause-populates
-returns-clause-populates g c = λ base faults stays.
+returns-clause-populates g c = λ origin stays.
     let D = g.D.Disk in
-    populates D.tells D.clock D.fault_count D.since D.state base faults c.args.start c.args.count c.fill.new.disk
+    populates D.tells D.clock D.fault_count D.since D.state origin c.args.start c.args.count c.fill.new.disk
     c.fill.new.engine _
-    (returns-clause-follows g c known (record { store = base; faults = faults }) (start_at base.list) stays
-    (at_start base.list))
+    (returns-clause-follows g c known origin (start_at origin.store.list) stays
+    (at_start origin.store.list))

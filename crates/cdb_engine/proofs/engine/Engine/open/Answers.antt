@@ -4,6 +4,7 @@ use Rattle.cdb_engine.specs.contracts.engine.Engine.{the_row}
 use Rattle.std.specs.Prelude.{Err}
 use Rattle.cdb_files.specs.Disk.{State}
 use Rattle.cdb_engine.specs.Store.{IsStoreFound, TellsNoStore}
+use Rattle.cdb_engine.proofs.OpenStays.{stays_opened}
 use Rattle.cdb_engine.proofs.OpenTracks.{store_stands, recovers, recover_moments, adds_rests, opened_tracks, opens_found, chain_refuses, recovery_found}
 use Rattle.cdb_engine.proofs.engine.Engine.open.Goals as goal
 
@@ -41,6 +42,14 @@ pub returns-in-Ok-new-clause-moments : goal.returns-in-Ok-new-clause-moments
 returns-in-Ok-new-clause-moments g c = λ told list early store.
     adds_rests g.D.Disk.clock g.D.Disk.since c.args.disk.now c.recover.new.disk c.open.new.disk (StandsForOne (list ∷ early))
     (recover_moments g.D.Disk.clock g.D.Disk.since c.args.disk.now c.recover.new.disk (g.D.Disk.state c.args.disk.now) (c.recover.ensures.moments told) (c.recover.ensures.fault_moments told) list early store) c.open.ensures.time
+
+pub returns-in-Ok-new-clause-follows : goal.returns-in-Ok-new-clause-follows
+returns-in-Ok-new-clause-follows g c = λ told base faults now store fewer.
+    let D = g.D.Disk in
+    stays_opened D.tells D.clock D.fault_count D.since D.state c.args.disk.now c.open.new.disk _ base faults told now
+    store fewer (returns-in-Ok-new-clause-begins g c told base.list base.early store)
+    (returns-in-Ok-new-clause-moments g c told base.list base.early store) (g.met.D.Disk.only_now c.args.disk.now)
+    (g.met.D.Disk.only_now c.open.new.disk)
 
 pub returns-in-Err-new-clause-moments : goal.returns-in-Err-new-clause-moments
 returns-in-Err-new-clause-moments g c = λ told list early store.

@@ -6,6 +6,7 @@ use Rattle.cdb_engine.specs.StepSizes.{TellsStep}
 use Rattle.cdb_engine.specs.Tracks.{Tracks}
 use Rattle.cdb_engine.specs.declared.errors.AdvanceError.TheVariants as advance
 use Rattle.cdb_engine.proofs.NoStep.{some_there, tries_halted, tries_nothing}
+use Rattle.cdb_engine.proofs.OtherLaws.{step_other}
 use Rattle.cdb_engine.proofs.StayLaws.{stays_shows}
 use Rattle.cdb_engine.proofs.StepTracks.{not_there, can_of, Steps}
 use Rattle.cdb_engine.proofs.StepThen.{step_then, moments_then}
@@ -120,3 +121,7 @@ returns-clause-sizes g c =
       damage = c.step-made.ensures.damage;
     } in
     subst Told c.self.view_is (subst (λ (o : Option publish.Publication). IfSome o Here) (sym has) told)
+
+pub returns-clause-other : goal.returns-clause-other
+returns-clause-other g c =
+    step_other c.step-made.result c.settle-work.result.answer c.settle-work.ensures.answer c.step-made.ensures.damage

@@ -2,6 +2,7 @@ use Rattle.std.proofs.Common.{sym, subst}
 use Rattle.cdb_sessions.specs.Sessions.{TileOutcome, AreCurrent, ServesCurrent}
 use Rattle.cdb_engine.specs.Held.{Held, held_of, sessions_part}
 use Rattle.cdb_engine.specs.Stays.{Stays}
+use Rattle.cdb_engine.proofs.OtherLaws.{tile_other}
 use Rattle.cdb_engine.proofs.TileTracks.{asks_then}
 use Rattle.cdb_engine.proofs.engine.Engine.tile.Goals as goal
 
@@ -21,3 +22,9 @@ pub returns-clause-current : goal.returns-clause-current
 returns-clause-current g c =
     subst (λ (h : Held). g.D.Disk.tells → AreCurrent (g.D.Disk.state c.args.disk.now).present h.kept → ServesCurrent (g.D.Disk.state c.args.disk.now).present h.sessions h.chain c.args.id c.args.tile.now c.tile.new.self c.tile.result)
     c.self.view_is c.tile.ensures.current
+
+pub returns-clause-other : goal.returns-clause-other
+returns-clause-other g c =
+    tile_other g.D.Disk.tells (g.D.Disk.state c.args.disk.now).present c.args.disk.now c.tile.new.disk
+    c.self.inside.chain c.args.id c.args.tile.now c.self.inside.sessions c.tile.new.self c.tile.result
+    c.tile.ensures.served
