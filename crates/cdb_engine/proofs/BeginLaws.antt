@@ -1,5 +1,6 @@
 -- A publication of sources that are drawn is begun.
-use Rattle.std.proofs.Common.{◌≡◌, ℕ, ◌<◌, ◌≤◌, List, [], length, Option, None, Result, Ok, Err, IsSome, sym, ap, subst, arith}
+use Rattle.std.proofs.Common.{◌≡◌, ℕ, ◌<◌, ◌≤◌, List, [], length, Option, None, Result, Ok, Err, IsSome, sym, ap, subst}
+use Rattle.std.proofs.Common.{arith}
 use Rattle.cdb_grid.specs.declared.tile.Tile.{Tile}
 use Rattle.cdb_source.specs.declared.source.Source.{Source}
 use Rattle.cdb_model.specs.Stores.{Which, known, any, store_kind}

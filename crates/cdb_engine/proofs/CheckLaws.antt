@@ -28,7 +28,8 @@ use Rattle.cdb_engine.specs.Tracks.{Works, Tracks, Origin}
 -- ---- a store that stands for a list agrees with it
 
 agrees_with : (m : FileMap) (list : List Publication) (records : List Record) (result : Result Agreed CheckError)
-    → Stands m list → AreRecords records list → FirstDiffering m (expected_files records) result → IfOk result (TellsCounts records)
+    → Stands m list → AreRecords records list → FirstDiffering m (expected_files records) result
+    → IfOk result (TellsCounts records)
     → AgreesWith list result
 agrees_with m list records (Ok agreed) stands are found told = (
   told.versions ∙ are.count,
@@ -41,7 +42,8 @@ agrees_with m list records (Err (Differs path)) stands are found told =
     (agrees_after m list stands [] list refl records [] (of_records records list are) tt) found
 
 -- the disk stands for the list at present, where no publication was given up
-present_stands : (held : Held) (d : disk.State) (s : KnownState) → Tracks held d s → s.halted ≡ None → IsImage d d.present
+present_stands : (held : Held) (d : disk.State) (s : KnownState) → Tracks held d s → s.halted ≡ None
+    → IsImage d d.present
     → Stands d.present s.list
 present_stands held d s t running image = by s.going s.halted held.work held.halted running t.works
   where
@@ -53,11 +55,13 @@ present_stands held d s t running image = by s.going s.halted held.work held.hal
     by None (Some x) None (Some faults) none w = absurd cc
     by _ _ _ _ none w = absurd w
 
-pub tracked_agrees : (held : Held) (d : disk.State) (s : KnownState) (result : Result Agreed CheckError) → Tracks held d s
+pub tracked_agrees : (held : Held) (d : disk.State) (s : KnownState) (result : Result Agreed CheckError)
+    → Tracks held d s
     → s.halted ≡ None → IsImage d d.present → FirstDiffering d.present (expected_files held.chain.records) result
     → IfOk result (TellsCounts held.chain.records) → AgreesWith s.list result
 tracked_agrees held d s result t running image found told =
-    agrees_with d.present s.list held.chain.records result (present_stands held d s t running image) t.records found told
+    agrees_with d.present s.list held.chain.records result
+    (present_stands held d s t running image) t.records found told
 
 -- ---- a check only reads
 

@@ -1,5 +1,6 @@
 -- The head that words give.
-use Rattle.std.proofs.Common.{◌≡◌, ℕ, suc, ◌*◌, ◌/◌, ◌<◌, ℤ, pos, negsuc, neg_ℤ, ◌*ℤ◌, ◌<ℤ◌, Option, Some, None, MatchOption, sym, ◌∙◌, ap, arith}
+use Rattle.std.proofs.Common.{◌≡◌, ℕ, suc, ◌*◌, ◌/◌, ◌<◌, ℤ, pos, negsuc, neg_ℤ, ◌*ℤ◌, ◌<ℤ◌, Option, Some, None}
+use Rattle.std.proofs.Common.{MatchOption, sym, ◌∙◌, ap, arith}
 use Rattle.std.proofs.Math.Nat.{mul-div_cancel}
 use Rattle.std.proofs.Math.IntN.{pos-*ℤ-pos, negsuc-*ℤ-pos}
 use Rattle.std.proofs.lemmas.Int.{ints}
@@ -41,15 +42,20 @@ one_number (negsuc m) u v w h eu ev = absurd (omega (arith, ints))
 pub one_units : (n d u v : ℤ) → IsFraction n d u → IsFraction n d v → u ≡ v
 one_units n d u v fu fv = one_number d u v _ fu.positive fu.value fv.value
 
-same_head : (k k' : Kind) (a a' b b' c c' d d' : ℤ) (r r' q q' : ℕ) → k ≡ k' → a ≡ a' → b ≡ b' → c ≡ c' → d ≡ d' → r ≡ r' → q ≡ q' → IsHead k a b c d r q → IsHead k' a' b' c' d' r' q'
+same_head : (k k' : Kind) (a a' b b' c c' d d' : ℤ) (r r' q q' : ℕ) → k ≡ k' → a ≡ a' → b ≡ b' → c ≡ c' → d ≡ d'
+    → r ≡ r' → q ≡ q' → IsHead k a b c d r q → IsHead k' a' b' c' d' r' q'
 same_head k k' a a' b b' c c' d d' r r' q q' ek ea eb ec ed er eq h = rw (← ek, ← ea, ← eb, ← ec, ← ed, ← er, ← eq) h
 
 -- what is made of numbers that the words give
-pub head_given : (w : Head) (rows cols : ℕ) (level : Level) (lat lon dlat dlon : Arc) → level.number ≡ w.level → IsUnits w.lat lat.units → IsUnits w.lon lon.units → IsUnits w.dlat dlat.units → IsUnits w.dlon dlon.units
-    → (made : Option SourceHead) → MatchOption made (IsHead w.kind lat.units lon.units dlat.units dlon.units rows cols → ⊥) (λ head. HasFields head w.kind level lat lon dlat dlon rows cols)
+pub head_given : (w : Head) (rows cols : ℕ) (level : Level) (lat lon dlat dlon : Arc) → level.number ≡ w.level
+    → IsUnits w.lat lat.units → IsUnits w.lon lon.units → IsUnits w.dlat dlat.units → IsUnits w.dlon dlon.units
+    → (made : Option SourceHead)
+    → MatchOption made (IsHead w.kind lat.units lon.units dlat.units dlon.units rows cols → ⊥)
+    (λ head. HasFields head w.kind level lat lon dlat dlon rows cols)
     → MatchOption made (SpellsNoHead w rows cols) (SpellsHead w rows cols)
 head_given w rows cols level lat lon dlat dlon l a b c d None none = λ head s.
-    none (same_head _ _ _ _ _ _ _ _ _ _ _ _ _ _ s.kind (one_units _ _ _ _ s.lat a) (one_units _ _ _ _ s.lon b) (one_units _ _ _ _ s.dlat c) (one_units _ _ _ _ s.dlon d) s.rows_are s.cols_are head.in_range)
+    none (same_head _ _ _ _ _ _ _ _ _ _ _ _ _ _ s.kind (one_units _ _ _ _ s.lat a) (one_units _ _ _ _ s.lon b)
+    (one_units _ _ _ _ s.dlat c) (one_units _ _ _ _ s.dlon d) s.rows_are s.cols_are head.in_range)
 head_given w rows cols level lat lon dlat dlon l a b c d (Some head) made = record {
   kind = made.kind_is;
   level = ap (λ (x : Level). x.number) made.level_is ∙ l;

@@ -26,18 +26,32 @@ some_there None e = cc
 some_there (Some x) e = refl
 
 -- nothing is going where nothing is worked on, and so on
-pub idle_as : (held : Held) (w : Which) (s : StateIn (store_kind w)) → Shows held w s → held.halted ≡ None → held.work ≡ None → IsIdleIn (store_kind w) s
-idle_as held w s shows running idle = record { running = none_as held.halted s.halted shows.halted running; idle = none_as held.work s.going shows.going idle }
+pub idle_as : (held : Held) (w : Which) (s : StateIn (store_kind w)) → Shows held w s → held.halted ≡ None
+    → held.work ≡ None → IsIdleIn (store_kind w) s
+idle_as held w s shows running idle =
+    record {
+      running = none_as held.halted s.halted shows.halted running;
+      idle = none_as held.work s.going shows.going idle;
+    }
 
-pub busy_as : (held : Held) (w : Which) (s : StateIn (store_kind w)) → Shows held w s → held.halted ≡ None → IsSome held.work → IsBusyIn (store_kind w) s
-busy_as held w s shows running busy = record { running = none_as held.halted s.halted shows.halted running; busy = some_as held.work s.going shows.going busy }
+pub busy_as : (held : Held) (w : Which) (s : StateIn (store_kind w)) → Shows held w s → held.halted ≡ None
+    → IsSome held.work → IsBusyIn (store_kind w) s
+busy_as held w s shows running busy =
+    record {
+      running = none_as held.halted s.halted shows.halted running;
+      busy = some_as held.work s.going shows.going busy;
+    }
 
-pub halted_as : (held : Held) (w : Which) (s : StateIn (store_kind w)) → Shows held w s → IsSome held.halted → IsSome s.halted
+pub halted_as : (held : Held) (w : Which) (s : StateIn (store_kind w)) → Shows held w s → IsSome held.halted
+    → IsSome s.halted
 halted_as held w s shows halted = some_as held.halted s.halted shows.halted halted
 
 -- one step is tried
-pub tries_halted : (held : Held) (w : Which) (s : StateIn (store_kind w)) → Shows held w s → IsSome held.halted → held.work ≡ None → TriesIn (store_kind w) s machine.halted s
-tries_halted held w s shows halted idle = (halted_as held w s shows halted, none_as held.work s.going shows.going idle, refl)
+pub tries_halted : (held : Held) (w : Which) (s : StateIn (store_kind w)) → Shows held w s → IsSome held.halted
+    → held.work ≡ None → TriesIn (store_kind w) s machine.halted s
+tries_halted held w s shows halted idle =
+    (halted_as held w s shows halted, none_as held.work s.going shows.going idle, refl)
 
-pub tries_nothing : (held : Held) (w : Which) (s : StateIn (store_kind w)) → Shows held w s → held.halted ≡ None → held.work ≡ None → TriesIn (store_kind w) s machine.nothing s
+pub tries_nothing : (held : Held) (w : Which) (s : StateIn (store_kind w)) → Shows held w s → held.halted ≡ None
+    → held.work ≡ None → TriesIn (store_kind w) s machine.nothing s
 tries_nothing held w s shows running idle = (idle_as held w s shows running idle, refl)

@@ -1,5 +1,6 @@
 -- One publication that is drawn, from its draws to its sum.
-use Rattle.std.proofs.Common.{◌≡◌, ℕ, suc, ℤ, List, [], ◌∷◌, ◌++◌, length, get_or, Option, None, Some, Ok, Err, refl, sym, ◌∙◌, ap, subst}
+use Rattle.std.proofs.Common.{◌≡◌, ℕ, suc, ℤ, List, [], ◌∷◌, ◌++◌, length, get_or, Option, None, Some, Ok, Err, refl}
+use Rattle.std.proofs.Common.{sym, ◌∙◌, ap, subst}
 use Rattle.std.specs.Prelude.{All}
 use Rattle.std.specs.Option.{option_map}
 use Rattle.std.proofs.lemmas.Grind.{flat_map-append}
@@ -20,7 +21,8 @@ use Rattle.cdb_engine.specs.Tracks.{Origin, Leads}
 use Rattle.cdb_engine.proofs.StayLaws.{stays_shows, stays_alike}
 use Rattle.cdb_generate.specs.Generator.{PublicationDrawn}
 use Rattle.cdb_generate.specs.Sums.{tiles_sum}
-use Rattle.cdb_engine.specs.Populating.{IsAtRest, IsDrawnNext, IsSumAt, CameTo, not_begun, given_up, complete, PublishesIn}
+use Rattle.cdb_engine.specs.Populating.{IsAtRest, IsDrawnNext, IsSumAt, CameTo, not_begun, given_up, complete}
+use Rattle.cdb_engine.specs.Populating.{PublishesIn}
 use Rattle.cdb_engine.specs.inside.Populating.{IsGoingOf, BeginsDrawn, FinishesSteps, LeadsAfter, Sums}
 use Rattle.cdb_engine.specs.declared.errors.PopulateError.{PopulateError}
 use Rattle.cdb_engine.specs.declared.errors.PopulateError.TheVariants.{Memory, Fault, Entries, Versions, Damaged}
@@ -123,7 +125,8 @@ maybe_leads any s next x New came now = record { next = next; step = came; now =
 
 maybe_after : (w : Which) (s : StateIn (store_kind w)) (list : (store_kind w).Listed) (x : ℕ) (New : StateIn
     (store_kind w) → Type 0)
-    → (LeadsAfter (store_kind w) list New → Leads (CameTo w s x) New) → (store_kind w).Maybe (LeadsAfter (store_kind w) list New)
+    → (LeadsAfter (store_kind w) list New → Leads (CameTo w s x) New)
+    → (store_kind w).Maybe (LeadsAfter (store_kind w) list New)
     → Leads (λ n. (store_kind w).Maybe (CameTo w s x n)) New
 maybe_after known s list x New f never = absurd never
 maybe_after any s list x New f led = let l = f led in record { next = l.next; step = l.step; now = l.now }
@@ -146,7 +149,8 @@ module _ (w : Which) (s : StateIn (store_kind w)) (x : ℕ) (at : IsAtRest (stor
     abbrev pub submitted : StateIn (store_kind w)
     submitted = record s { pending = sources }
 
-    pub refused_begin : (e : PopulateError) (New : StateIn (store_kind w) → Type 0) → BeginsDrawn w submitted (Err e) New
+    pub refused_begin : (e : PopulateError) (New : StateIn (store_kind w) → Type 0)
+        → BeginsDrawn w submitted (Err e) New
         → Leads (PublishesIn w s x (Err e)) New
     refused_begin Memory New now = record { next = submitted; step = not_begun refl at.going at.halted; now = now }
     refused_begin Fault New never = absurd never
@@ -221,7 +225,8 @@ module _ (w : Which) (s : StateIn (store_kind w)) (x : ℕ) (at : IsAtRest (stor
                 Some ((store_kind w).drop g.planned);
           }) x New (given_up next_one refl refl refl) maybe
 
-      came : (New : StateIn (store_kind w) → Type 0) → LeadsAfter (store_kind w) published.list New → Leads (CameTo w s x) New
+      came : (New : StateIn (store_kind w) → Type 0) → LeadsAfter (store_kind w) published.list New
+          → Leads (CameTo w s x) New
       came New led = record {
         next = led.next;
         step =
@@ -237,7 +242,8 @@ module _ (w : Which) (s : StateIn (store_kind w)) (x : ℕ) (at : IsAtRest (stor
       failed_sum Versions New never = absurd never
       failed_sum (Damaged expected found) New maybe = maybe_after w s published.list x New (came New) maybe
 
-      pub all_done : (made : Published) (New : StateIn (store_kind w) → Type 0) → Sums w published.list (Ok made.sum) New
+      pub all_done : (made : Published) (New : StateIn (store_kind w) → Type 0)
+          → Sums w published.list (Ok made.sum) New
           → made.files ≡ length g.tiles → IsSumAt w published.list g.tiles made.sum
           → Leads (PublishesIn w s x (Ok made)) New
       all_done made New led files sum = record {

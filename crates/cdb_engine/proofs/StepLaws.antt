@@ -1,5 +1,6 @@
 -- All steps of the publication that is going.
-use Rattle.std.proofs.Common.{◌≡◌, ℕ, ◌+◌, ◌-◌, ◌<◌, ◌≤◌, Option, None, Some, Result, Ok, Err, sym, ◌∙◌, ap, subst, arith}
+use Rattle.std.proofs.Common.{◌≡◌, ℕ, ◌+◌, ◌-◌, ◌<◌, ◌≤◌, Option, None, Some, Result, Ok, Err, sym, ◌∙◌, ap, subst}
+use Rattle.std.proofs.Common.{arith}
 use Rattle.std.proofs.lemmas.Option.{same_Some}
 use Rattle.cdb_model.specs.Events as machine
 use Rattle.cdb_model.specs.Stores.{Kind, Which, known, any, store_kind}
@@ -92,7 +93,8 @@ damaged any s now left made expected found Old New p led =
     given_up (store_kind any) s now left made Old New p led.next led.step led.now
 
 -- after a step was tried: one more was made, or the steps ended
-abbrev pub Steps : (w : Which) → StateIn (store_kind w) → GoingIn (store_kind w) → ℕ → ℕ → (StateIn (store_kind w) → Type 0)
+abbrev pub Steps : (w : Which) → StateIn (store_kind w) → GoingIn (store_kind w) → ℕ → ℕ
+    → (StateIn (store_kind w) → Type 0)
     → Option (Result Unit PopulateError) → Type 0
 Steps w s now left made New None = Partly (store_kind w) s now left (made + 1) New
 Steps w s now left made New (Some end) = FinishesSteps w s now.publication end New
@@ -100,7 +102,8 @@ Steps w s now left made New (Some end) = FinishesSteps w s now.publication end N
 module _ (w : Which) (s : StateIn (store_kind w)) (now : GoingIn (store_kind w)) (left made : ℕ)
     (Old New : StateIn (store_kind w) → Type 0) (p : Partly (store_kind w) s now left made Old) where
   stepped : (r : Result Progress AdvanceError)
-      → Leads (TriesIn (store_kind w) (with_left (store_kind w) s now.publication (now.left - made)) (advance_answer r)) New
+      → Leads (TriesIn (store_kind w) (with_left (store_kind w) s now.publication (now.left - made))
+      (advance_answer r)) New
       → Steps w s now left made New (ended_by r)
   stepped (Ok progress.Going) led = one_more (store_kind w) s now left made Old New p led
   stepped (Ok (progress.Published version)) led = last_one (store_kind w) s now left made Old New p version led

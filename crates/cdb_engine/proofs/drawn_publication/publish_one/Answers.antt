@@ -12,7 +12,8 @@ use Rattle.cdb_source.specs.declared.source.Source.{Source}
 use Rattle.cdb_engine.specs.Stays.{Stays}
 use Rattle.cdb_engine.proofs.StayLaws.{stays_shows, stays_alike}
 use Rattle.cdb_generate.proofs.LoadLaws.{drawn_fits}
-use Rattle.cdb_engine.proofs.PublishLaws.{none_mapped, not_yet, pending_only, pending_here, refused_begin, begun, published, rests, failed_finish, failed_sum, sum_at, reached_at, all_done}
+use Rattle.cdb_engine.proofs.PublishLaws.{none_mapped, not_yet, pending_only, pending_here, refused_begin, begun}
+use Rattle.cdb_engine.proofs.PublishLaws.{published, rests, failed_finish, failed_sum, sum_at, reached_at, all_done}
 use Rattle.cdb_engine.proofs.drawn_publication.publish_one.Goals as goal
 
 pub returns-in_default-clause-publishes : goal.returns-in_default-clause-publishes
@@ -80,7 +81,8 @@ returns-in-Err-finish-clause-publishes g c = λ w origin s stays at.
     let mid = pending_here D.tells D.clock D.fault_count D.since D.state origin d c.args.engine.now
     c.submit_all.new.engine w s sources stays at.pending
     c.submit_all.ensures.same c.in-Ok-submit_all.ensures.next in
-    let Mid = Stays D.tells D.clock D.fault_count D.since D.state origin c.begin_drawn.new.disk c.begin_drawn.new.engine w in
+    let Mid = Stays D.tells D.clock D.fault_count D.since D.state origin c.begin_drawn.new.disk
+    c.begin_drawn.new.engine w in
     let going = c.in-Ok-begin_drawn.ensures.begins w origin (record s {
       pending =
           sources;
@@ -99,7 +101,8 @@ returns-clause-publishes g c = λ w origin s stays at.
     let mid = pending_here D.tells D.clock D.fault_count D.since D.state origin d c.args.engine.now
     c.submit_all.new.engine w s sources stays at.pending
     c.submit_all.ensures.same c.in-Ok-submit_all.ensures.next in
-    let Mid = Stays D.tells D.clock D.fault_count D.since D.state origin c.begin_drawn.new.disk c.begin_drawn.new.engine w in
+    let Mid = Stays D.tells D.clock D.fault_count D.since D.state origin c.begin_drawn.new.disk
+    c.begin_drawn.new.engine w in
     let going = c.in-Ok-begin_drawn.ensures.begins w origin (record s {
       pending =
           sources;
@@ -122,8 +125,10 @@ returns-in-Ok-sum_newest-clause-publishes g c = λ w origin s stays at.
     let mid = pending_here D.tells D.clock D.fault_count D.since D.state origin d c.args.engine.now
     c.submit_all.new.engine w s sources stays at.pending
     c.submit_all.ensures.same c.in-Ok-submit_all.ensures.next in
-    let Mid = Stays D.tells D.clock D.fault_count D.since D.state origin c.begin_drawn.new.disk c.begin_drawn.new.engine w in
-    let going = c.in-Ok-begin_drawn.ensures.begins w origin (record s { pending = sources }) x mid at.halted at.going drawn in
+    let Mid = Stays D.tells D.clock D.fault_count D.since D.state origin c.begin_drawn.new.disk
+    c.begin_drawn.new.engine w in
+    let going = c.in-Ok-begin_drawn.ensures.begins w origin
+    (record s { pending = sources }) x mid at.halted at.going drawn in
     let made = c.in-Ok-finish.ensures.finishes w origin (begun w s x at sources drawn Mid going)
     (record { publication = going.planned; left = going.left }) going.now refl at.halted going.some in
     let touched : IsTouched (heads_of sources) tiles =

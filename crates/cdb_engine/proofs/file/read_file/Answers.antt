@@ -5,7 +5,8 @@ pub returns-in-Err-clause-unread : goal.returns-in-Err-clause-unread
 returns-in-Err-clause-unread g c = not_for_shelf _ _
 
 pub returns-then-size-gt-FILE_BYTES-clause-unread : goal.returns-then-size-gt-FILE_BYTES-clause-unread
-returns-then-size-gt-FILE_BYTES-clause-unread g c = too_big _ _ _ c.if-size-gt-FILE_BYTES.true (rw c.in-Ok-Some.field-0-is at c.in-Ok-Some.ensures).size
+returns-then-size-gt-FILE_BYTES-clause-unread g c =
+    too_big _ _ _ c.if-size-gt-FILE_BYTES.true (rw c.in-Ok-Some.field-0-is at c.in-Ok-Some.ensures).size
 
 pub returns-in_default-clause-unread : goal.returns-in_default-clause-unread
 returns-in_default-clause-unread g c = not_for_memory _ _

@@ -1,11 +1,13 @@
-use Rattle.std.proofs.Common.{rules, ◌≡◌, ◌+◌, ◌*◌, ℤ, pos, ◌+ℤ◌, ◌≤ℤ◌, w64, to_z, of_z, ℕ, Ok, Err, [], refl, sym, ◌∙◌, ap, subst, arith}
+use Rattle.std.proofs.Common.{rules, ◌≡◌, ◌+◌, ◌*◌, ℤ, pos, ◌+ℤ◌, ◌≤ℤ◌, w64, to_z, of_z, ℕ, Ok, Err, [], refl, sym, ◌∙◌}
+use Rattle.std.proofs.Common.{ap, subst, arith}
 use Rattle.cdb_model.specs.Stores.{any}
 use Rattle.cdb_engine.specs.Stays.{Stays, bare_of}
 use Rattle.cdb_engine.specs.Tracks.{Origin, Leads}
 use Rattle.cdb_generate.specs.Generator.{state_next}
 use Rattle.cdb_engine.specs.Filling.{AreMade}
 use Rattle.cdb_engine.specs.Populating.{PublishesIn}
-use Rattle.cdb_engine.proofs.FillLaws.{none_made, one_more_made, stopped_after, rests_by, passed_more, least_more, most_more}
+use Rattle.cdb_engine.proofs.FillLaws.{none_made, one_more_made, stopped_after, rests_by, passed_more, least_more}
+use Rattle.cdb_engine.proofs.FillLaws.{most_more}
 use Rattle.cdb_engine.proofs.filling.fill.Goals as goal
 
 pub loop-init : goal.loop-init

@@ -7,5 +7,7 @@ returns-in_err-level c = rw c.from_residual.ensures (λ head s. c.in_err-level.e
 
 pub returns : goal.returns
 returns c =
-    head_given (head_of_words c.args.words.now) c.args.rows c.args.cols c.in_ok-level.level c.in_ok-lat.lat c.in_ok-lon.lon c.in_ok-dlat.dlat c.in_ok-dlon.dlon
-    c.in_ok-level.ensures c.in_ok-lat.ensures c.in_ok-lon.ensures c.in_ok-dlat.ensures c.in_ok-dlon.ensures c.new.result c.new.ensures
+    head_given (head_of_words c.args.words.now) c.args.rows c.args.cols c.in_ok-level.level c.in_ok-lat.lat
+    c.in_ok-lon.lon c.in_ok-dlat.dlat c.in_ok-dlon.dlon
+    c.in_ok-level.ensures c.in_ok-lat.ensures c.in_ok-lon.ensures c.in_ok-dlat.ensures c.in_ok-dlon.ensures
+    c.new.result c.new.ensures

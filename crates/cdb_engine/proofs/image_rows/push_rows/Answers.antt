@@ -11,14 +11,19 @@ use Rattle.cdb_engine.proofs.image_rows.push_rows.Goals as goal
 
 pub returns-in_err-push_row-clause-err : goal.returns-in_err-push_row-clause-err
 returns-in_err-push_row-clause-err c =
-    let none : All (IsAllowed c.args.maker.now.head.kind c.args.novalue) (last_first c.args.image.now.length (row_of_pixels c.args.bytes.now)) → ⊥ = λ all.
+    let none : All (IsAllowed c.args.maker.now.head.kind c.args.novalue)
+    (last_first c.args.image.now.length (row_of_pixels c.args.bytes.now)) → ⊥ = λ all.
     not_allowed _ _ _ _ _ _
-    (ap (λ (h : SourceHead). h.kind) c.loop-r.invariant.head_is) (to_z-of_z w32 c.args.novalue c.ranges.novalue) (row_read c.args.bytes.now c.loop-r.r c.row.new.to (omega (arith, c.requires.opened.fields.width)) c.row.ensures)
+    (ap (λ (h : SourceHead). h.kind) c.loop-r.invariant.head_is) (to_z-of_z w32 c.args.novalue c.ranges.novalue)
+    (row_read c.args.bytes.now c.loop-r.r c.row.new.to
+    (omega (arith, c.requires.opened.fields.width)) c.row.ensures)
     c.in_err-push_row.ensures.allowed.1
-    (all_of_row (IsAllowed c.args.maker.now.head.kind c.args.novalue) c.args.image.now.length c.loop-r.r (row_of_pixels c.args.bytes.now) c.loop-r-test.true all) in
+    (all_of_row (IsAllowed c.args.maker.now.head.kind c.args.novalue) c.args.image.now.length c.loop-r.r
+    (row_of_pixels c.args.bytes.now) c.loop-r-test.true all) in
     on_err _ c.from_residual.result none
 
 pub loop-r-preserved : goal.loop-r-preserved
 loop-r-preserved c =
-    one_more_row _ _ _ _ c.loop-r.maker c.push_row.new.self c.row.new.to c.loop-r.invariant c.in_ok-push_row.ensures.head c.in_ok-push_row.ensures.due c.in_ok-push_row.ensures.posts
+    one_more_row _ _ _ _ c.loop-r.maker c.push_row.new.self c.row.new.to c.loop-r.invariant
+    c.in_ok-push_row.ensures.head c.in_ok-push_row.ensures.due c.in_ok-push_row.ensures.posts
     (row_read c.args.bytes.now c.loop-r.r c.row.new.to (omega (arith, c.requires.opened.fields.width)) c.row.ensures)

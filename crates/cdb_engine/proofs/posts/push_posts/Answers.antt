@@ -11,9 +11,12 @@ use Rattle.cdb_engine.proofs.posts.push_posts.Goals as goal
 
 pub returns-in_err-push_row-clause-err : goal.returns-in_err-push_row-clause-err
 returns-in_err-push_row-clause-err c =
-    let none : All (IsAllowed c.args.maker.now.head.kind c.args.novalue) (last_first c.args.rows (spelled_row c.args.cols c.args.posts.now)) → ⊥ = λ all.
+    let none : All (IsAllowed c.args.maker.now.head.kind c.args.novalue)
+    (last_first c.args.rows (spelled_row c.args.cols c.args.posts.now)) → ⊥ = λ all.
     not_allowed _ _ _ _ _ _
-    (ap (λ (h : SourceHead). h.kind) c.loop-row.invariant.head_is) (to_z-of_z w32 c.args.novalue c.ranges.novalue) (ap (λ n. take n (drop (c.loop-row.row * c.args.cols) c.args.posts.now)) (omega arith))
+    (ap (λ (h : SourceHead). h.kind) c.loop-row.invariant.head_is) (to_z-of_z w32 c.args.novalue c.ranges.novalue)
+    (ap (λ n. take n (drop (c.loop-row.row * c.args.cols) c.args.posts.now)) (omega arith))
     c.in_err-push_row.ensures.allowed.1
-    (all_of_row (IsAllowed c.args.maker.now.head.kind c.args.novalue) c.args.rows c.loop-row.row (spelled_row c.args.cols c.args.posts.now) c.loop-row-test.true all) in
+    (all_of_row (IsAllowed c.args.maker.now.head.kind c.args.novalue) c.args.rows c.loop-row.row
+    (spelled_row c.args.cols c.args.posts.now) c.loop-row-test.true all) in
     on_err _ c.from_residual.result none

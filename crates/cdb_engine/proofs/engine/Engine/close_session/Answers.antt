@@ -10,7 +10,11 @@ use Rattle.cdb_engine.proofs.engine.Engine.close_session.Goals as goal
 
 pub returns-clause-disconnects : goal.returns-clause-disconnects
 returns-clause-disconnects c = λ w s shows.
-    let new : Held = held_of c.self.inside.chain c.self.inside.work c.self.inside.pending.items c.close.new.self c.self.inside.halted in
-    subst (λ (h : Held). Leads (CloseLineIn (store_kind w) s c.args.id (close_answer c.close.result)) (ChangesAlike h new w s)) c.self.view_is
-    (disconnects c.self.inside.chain c.self.inside.work c.self.inside.pending.items c.self.inside.halted c.self.inside.sessions c.close.new.self c.close.ensures.still w s
+    let new : Held =
+    held_of c.self.inside.chain c.self.inside.work c.self.inside.pending.items c.close.new.self
+    c.self.inside.halted in
+    subst (λ (h : Held). Leads (CloseLineIn (store_kind w) s c.args.id (close_answer c.close.result))
+    (ChangesAlike h new w s)) c.self.view_is
+    (disconnects c.self.inside.chain c.self.inside.work c.self.inside.pending.items c.self.inside.halted
+    c.self.inside.sessions c.close.new.self c.close.ensures.still w s
     (subst (λ (h : Held). Shows h w s) (sym c.self.view_is) shows) c.args.id c.close.result c.close.ensures.closed)
