@@ -19,6 +19,8 @@ impl<R: Read> StdInput<R> {
 impl<R: Read> Input for StdInput<R> {
     ghost left = { λ _. None };
 
+    ghost failed_at = { λ _. None };
+
     ghost fault_count = { λ input. input.faults };
 
     fn read(&mut self, into: &mut [u8]) -> Result<usize, Failed> {

@@ -21,27 +21,29 @@ ends_of_store : (status : Status) (old new : Option (List ℕ)) (result : Status
 ends_of_store status old new result (is_whole written) s = s
 ends_of_store status old new result (is_part written) s = tt
 
-pub completes : (v : Devices) (input_faults : v.I → ℕ) (output_faults : v.O → ℕ)
-    → RunsAreComplete v input_faults output_faults
-completes v input_faults output_faults life base goes u =
+pub completes : (v : Devices) (output_faults : v.O → ℕ) → RunsAreComplete v output_faults
+completes v output_faults life base goes u =
     record {
       ends = by life.status refl;
-      few = in_time life.status goes;
-      quits = quits life.status goes;
-      plain = plain_answers (Holds v.shelf_tells (v.files life.shelf)) (start_at base.list) goes.run.state
-          goes.transcript.items goes.transcript.answers goes.run.run refl disks shelves;
+      few = in_time life.status goes.outcome;
+      quits = quits life.status goes.outcome;
+      plain = plain_answers (Holds v.shelf_tells (v.files life.shelf)) (start_at base.list) goes.outcome.run.state
+          goes.outcome.transcript.items goes.outcome.transcript.answers goes.outcome.run.run refl disks shelves;
     }
   where
-    disks : tally disk_fault goes.transcript.answers ≡ 0
-    disks = let e = u.disk.0 in let l = u.disk.1 in let c = goes.transcript.disk_counted (omega (arith, e, l)) in
+    disks : tally disk_fault goes.outcome.transcript.answers ≡ 0
+    disks = let e = u.disk.0 in let l = u.disk.1 in
+        let c = goes.outcome.transcript.disk_counted (omega (arith, e, l)) in
         omega (arith, c, e)
 
-    shelves : tally shelf_fault goes.transcript.answers ≡ 0
-    shelves = let e = u.shelf.0 in let l = u.shelf.1 in let c = goes.transcript.shelf_counted (omega (arith, e, l)) in
+    shelves : tally shelf_fault goes.outcome.transcript.answers ≡ 0
+    shelves = let e = u.shelf.0 in let l = u.shelf.1 in
+        let c = goes.outcome.transcript.shelf_counted (omega (arith, e, l)) in
         omega (arith, c, e)
 
     of_store : IsOfStore life.status
-    of_store = ends_of_store goes.status goes.written (v.written life.output') life.status goes.ends goes.run.of_store
+    of_store = ends_of_store goes.outcome.status goes.outcome.written (v.written life.output') life.status
+        goes.outcome.ends goes.outcome.run.of_store
 
     by : (status : Status) → life.status ≡ status → (life.status ≡ Done)
         ⊎ ((life.status ≡ Memory) ⊎ (life.status ≡ TooLong))
@@ -49,7 +51,8 @@ completes v input_faults output_faults life base goes u =
     by Memory is = inr (inl is)
     by TooLong is = inr (inr is)
     by Usage is = absurd (u.words is)
-    by InputFault is = absurd (no_rise (input_faults life.input) (input_faults life.input') u.input (u.input_failed is))
+    by InputFault is = absurd (no_rise (v.input_faults life.input) (v.input_faults life.input') u.input
+        (u.input_failed is))
     by StoreFault is = absurd (no_rise (v.disk_faults life.old) (v.disk_faults life.new) u.disk (u.store_failed is))
     by OutputFault is = absurd (no_rise (output_faults life.output) (output_faults life.output') u.output
         (u.output_failed is))

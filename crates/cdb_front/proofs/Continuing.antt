@@ -185,51 +185,53 @@ again list (a ∷ b ∷ early) entry d store clear maps image = absurd store
 
 module _ (v : Devices) (life : Life v) (base : Base) (goes : Goes v life (Some base)) where
   abbrev kept : List Publication
-  kept = acknowledged goes.run.begun goes.transcript.answers goes.transcript.wrote
+  kept = acknowledged goes.outcome.run.begun goes.outcome.transcript.answers goes.outcome.transcript.wrote
 
-  begun_none : HasNoStore goes.status → goes.run.begun ≡ []
+  begun_none : HasNoStore goes.outcome.status → goes.outcome.run.begun ≡ []
   begun_none closed =
-      let t = goes.transcript in
-      let none = heard_nothing goes.status t.lines t.heard t.rest closed t.hears in
+      let t = goes.outcome.transcript in
+      let none = heard_nothing goes.outcome.status t.lines t.heard t.rest closed t.hears in
       let items = no_items t.items t.unmade (ap (items_of life.most) (sym none) ∙ t.items_are) in
-      begins_none (Holds v.shelf_tells (v.files life.shelf)) base.list t.items t.answers goes.run.state
-      goes.run.begun items
-      goes.run.run goes.run.has_begun
+      begins_none (Holds v.shelf_tells (v.files life.shelf)) base.list t.items t.answers goes.outcome.run.state
+      goes.outcome.run.begun items
+      goes.outcome.run.run goes.outcome.run.has_begun
 
-  kept_none : HasNoStore goes.status → kept ≡ []
+  kept_none : HasNoStore goes.outcome.status → kept ≡ []
   kept_none closed =
-      take-none (tally completes (whole_answers goes.transcript.answers goes.transcript.wrote)) goes.run.begun
-      (begun_none closed)
+      take-none
+      (tally completes (whole_answers goes.outcome.transcript.answers goes.outcome.transcript.wrote))
+      goes.outcome.run.begun (begun_none closed)
 
   -- ---- what a stop left
 
   exit_left : (status : Status) (keep : List Publication) (m : FileMap) → (HasNoStore status → keep ≡ [])
-      → StandsAtExit status base goes.run.begun keep m
-      → (list : List Publication) × MayLeave base goes.run.begun keep list × Stands m list
-  exit_left Done keep m none s = extended goes.run.begun keep base m s
-  exit_left InputFault keep m none s = extended goes.run.begun keep base m s
-  exit_left OutputFault keep m none s = extended goes.run.begun keep base m s
-  exit_left TooLong keep m none s = extended goes.run.begun keep base m s
-  exit_left (Differs path) keep m none s = extended goes.run.begun keep base m s
-  exit_left (Refused limit) keep m none s = extended goes.run.begun keep base m s
-  exit_left (Damaged expected found) keep m none s = extended goes.run.begun keep base m s
-  exit_left Memory keep m none (inl s) = extended goes.run.begun keep base m s
+      → StandsAtExit status base goes.outcome.run.begun keep m
+      → (list : List Publication) × MayLeave base goes.outcome.run.begun keep list × Stands m list
+  exit_left Done keep m none s = extended goes.outcome.run.begun keep base m s
+  exit_left InputFault keep m none s = extended goes.outcome.run.begun keep base m s
+  exit_left OutputFault keep m none s = extended goes.outcome.run.begun keep base m s
+  exit_left TooLong keep m none s = extended goes.outcome.run.begun keep base m s
+  exit_left (Differs path) keep m none s = extended goes.outcome.run.begun keep base m s
+  exit_left (Refused limit) keep m none s = extended goes.outcome.run.begun keep base m s
+  exit_left (Damaged expected found) keep m none s = extended goes.outcome.run.begun keep base m s
+  exit_left Memory keep m none (inl s) = extended goes.outcome.run.begun keep base m s
   exit_left Memory keep m none (inr s) = let r = one_of base.early m s in (r.0, inr (none tt, r.1), r.2)
-  exit_left Usage keep m none (inl s) = extended goes.run.begun keep base m s
+  exit_left Usage keep m none (inl s) = extended goes.outcome.run.begun keep base m s
   exit_left Usage keep m none (inr s) = let r = one_of base.early m s in (r.0, inr (none tt, r.1), r.2)
-  exit_left StoreFault keep m none (inl s) = extended goes.run.begun keep base m s
+  exit_left StoreFault keep m none (inl s) = extended goes.outcome.run.begun keep base m s
   exit_left StoreFault keep m none (inr s) = let r = one_of base.early m s in (r.0, inr (none tt, r.1), r.2)
-  exit_left (NotAStore version place) keep m none (inl s) = extended goes.run.begun keep base m s
+  exit_left (NotAStore version place) keep m none (inl s) = extended goes.outcome.run.begun keep base m s
   exit_left (NotAStore version place) keep m none (inr s) = let r = one_of base.early m s in
       (r.0, inr (none tt, r.1), r.2)
 
   stop_left : (m : FileMap) (stop : StopLeaves v life m)
-      → (list : List Publication) × MayLeave base goes.run.begun (acked_at v life m base stop goes) list × Stands m list
-  stop_left m (at_end image) = exit_left goes.status kept m kept_none (goes.run.at_exit m image)
-  stop_left m (amid since) = by (goes.run.since m since)
+      → (list : List Publication) × MayLeave base goes.outcome.run.begun (acked_at v life m base stop goes) list
+      × Stands m list
+  stop_left m (at_end image) = exit_left goes.outcome.status kept m kept_none (goes.outcome.run.at_exit m image)
+  stop_left m (amid since) = by (goes.outcome.run.since m since)
     where
-      by : StandsSince base goes.run.begun m
-          → (list : List Publication) × MayLeave base goes.run.begun [] list × Stands m list
+      by : StandsSince base goes.outcome.run.begun m
+          → (list : List Publication) × MayLeave base goes.outcome.run.begun [] list × Stands m list
       by (inl s) = (
         base.list ++ s.first,
         inl record {
@@ -250,7 +252,7 @@ module _ (v : Devices) (life : Life v) (base : Base) (goes : Goes v life (Some b
     pub now : List Publication
     pub others : List (List Publication)
     pub store : IsStore now others d
-    pub each : AllByRecursion (MayLeave base goes.run.begun keep) (now ∷ others)
+    pub each : AllByRecursion (MayLeave base goes.outcome.run.begun keep) (now ∷ others)
 
   stop_found : (next : Life v) → (r : Reopens v life next)
       → Found (acked_at v life r.m base r.stop goes) (v.state next.old)
@@ -277,45 +279,48 @@ module _ (v : Devices) (life : Life v) (base : Base) (goes : Goes v life (Some b
   rested (Refused limit) s d o r = absurd o
   rested (Damaged expected found) s d o r = absurd o
 
-  first : IsAcknowledged goes.run.has_begun.complete kept
-  first = kept_first (Holds v.shelf_tells (v.files life.shelf)) base.list goes.run.state goes.transcript.items
-      goes.transcript.answers goes.run.begun goes.transcript.wrote goes.run.run goes.run.has_begun
+  first : IsAcknowledged goes.outcome.run.has_begun.complete kept
+  first = kept_first (Holds v.shelf_tells (v.files life.shelf)) base.list goes.outcome.run.state
+      goes.outcome.transcript.items goes.outcome.transcript.answers goes.outcome.run.begun goes.outcome.transcript.wrote
+      goes.outcome.run.run goes.outcome.run.has_begun
 
-  leaves_old : MayLeave base goes.run.begun kept goes.run.state.list
+  leaves_old : MayLeave base goes.outcome.run.begun kept goes.outcome.run.state.list
   leaves_old = inl record {
-    first = goes.run.has_begun.complete;
-    later = unfinished goes.run.state.going goes.run.state.halted;
+    first = goes.outcome.run.has_begun.complete;
+    later = unfinished goes.outcome.run.state.going goes.outcome.run.state.halted;
     more = first.rest;
-    joined = goes.run.has_begun.begun_is;
+    joined = goes.outcome.run.has_begun.begun_is;
     holds = first.joined;
-    list_is = goes.run.has_begun.list_is;
+    list_is = goes.outcome.run.has_begun.list_is;
   }
 
-  leaves_new : (x : Publication) → goes.run.state.going ≡ None → goes.run.state.halted ≡ Some x
-      → MayLeave base goes.run.begun kept (goes.run.state.list ++ x ∷ [])
+  leaves_new : (x : Publication) → goes.outcome.run.state.going ≡ None → goes.outcome.run.state.halted ≡ Some x
+      → MayLeave base goes.outcome.run.begun kept (goes.outcome.run.state.list ++ x ∷ [])
   leaves_new x idle halted = inl record {
-    first = goes.run.has_begun.complete ++ x ∷ [];
+    first = goes.outcome.run.has_begun.complete ++ x ∷ [];
     later = [];
     more = first.rest ++ x ∷ [];
-    joined = goes.run.has_begun.begun_is
-        ∙ ap (λ (going : Option Going). goes.run.has_begun.complete ++ unfinished going goes.run.state.halted) idle
-        ∙ ap (λ (given_up : Option Publication). goes.run.has_begun.complete ++ unfinished None given_up) halted
-        ∙ sym (append-nil (goes.run.has_begun.complete ++ x ∷ []));
+    joined = goes.outcome.run.has_begun.begun_is
+        ∙ ap (λ (going : Option Going). goes.outcome.run.has_begun.complete
+        ++ unfinished going goes.outcome.run.state.halted) idle
+        ∙ ap (λ (given_up : Option Publication). goes.outcome.run.has_begun.complete ++ unfinished None given_up) halted
+        ∙ sym (append-nil (goes.outcome.run.has_begun.complete ++ x ∷ []));
     holds = ap (λ (l : List Publication). l ++ x ∷ []) first.joined ∙ append_assoc kept first.rest (x ∷ []);
-    list_is = ap (λ (l : List Publication). l ++ x ∷ []) goes.run.has_begun.list_is
-        ∙ append_assoc base.list goes.run.has_begun.complete (x ∷ []);
+    list_is = ap (λ (l : List Publication). l ++ x ∷ []) goes.outcome.run.has_begun.list_is
+        ∙ append_assoc base.list goes.outcome.run.has_begun.complete (x ∷ []);
   }
 
-  given_up : (d : disk.State) (x : Publication) → goes.run.state.going ≡ None → goes.run.state.halted ≡ Some x
-      → IsFaulted Stands goes.run.state.list x d → IsImage d d.present → Found kept d
+  given_up : (d : disk.State) (x : Publication) → goes.outcome.run.state.going ≡ None
+      → goes.outcome.run.state.halted ≡ Some x
+      → IsFaulted Stands goes.outcome.run.state.list x d → IsImage d d.present → Found kept d
   given_up d x idle halted faulted image = by (faulted.either d.present image)
     where
-      by : IsEither Stands goes.run.state.list x d.present → Found kept d
+      by : IsEither Stands goes.outcome.run.state.list x d.present → Found kept d
       by (inl stands) = record {
-        now = goes.run.state.list;
-        others = (goes.run.state.list ++ x ∷ []) ∷ [];
+        now = goes.outcome.run.state.list;
+        others = (goes.outcome.run.state.list ++ x ∷ []) ∷ [];
         store = record {
-          shorter = goes.run.state.list;
+          shorter = goes.outcome.run.state.list;
           x = x;
           next = inl (refl, refl);
           faulted = faulted;
@@ -324,10 +329,10 @@ module _ (v : Devices) (life : Life v) (base : Base) (goes : Goes v life (Some b
         each = (leaves_old, (leaves_new x idle halted, tt));
       }
       by (inr stands) = record {
-        now = goes.run.state.list ++ x ∷ [];
-        others = goes.run.state.list ∷ [];
+        now = goes.outcome.run.state.list ++ x ∷ [];
+        others = goes.outcome.run.state.list ∷ [];
         store = record {
-          shorter = goes.run.state.list;
+          shorter = goes.outcome.run.state.list;
           x = x;
           next = inr (refl, refl);
           faulted = faulted;
@@ -336,16 +341,16 @@ module _ (v : Devices) (life : Life v) (base : Base) (goes : Goes v life (Some b
         each = (leaves_new x idle halted, (leaves_old, tt));
       }
 
-  opened_found : (d : disk.State) (given : Option Publication) → goes.run.state.halted ≡ given
-      → IsLeftAtRest goes.run.state d
+  opened_found : (d : disk.State) (given : Option Publication) → goes.outcome.run.state.halted ≡ given
+      → IsLeftAtRest goes.outcome.run.state d
       → IsClear d → IsImage d d.present → Found kept d
   opened_found d None is rest clear image =
-      record { now = goes.run.state.list; others = []; store = rest.whole is; each = (leaves_old, tt) }
+      record { now = goes.outcome.run.state.list; others = []; store = rest.whole is; each = (leaves_old, tt) }
   opened_found d (Some x) is rest clear image = given_up d x (rest.idle x is) is (rest.faulted x is clear) image
 
   -- it wasn't
-  closed_maps : (status : Status) (m : FileMap) → HasNoStore status → goes.run.begun ≡ []
-      → StandsAtExit status base goes.run.begun kept m
+  closed_maps : (status : Status) (m : FileMap) → HasNoStore status → goes.outcome.run.begun ≡ []
+      → StandsAtExit status base goes.outcome.run.begun kept m
       → Stands m base.list ⊎ StandsForOne base.early m
   closed_maps status m closed none s = by status closed s
     where
@@ -353,17 +358,17 @@ module _ (v : Devices) (life : Life v) (base : Base) (goes : Goes v life (Some b
       nothing [] later e = refl
       nothing (x ∷ first) later e = cc
 
-      one : StandsKept base.list goes.run.begun kept m → Stands m base.list
+      one : StandsKept base.list goes.outcome.run.begun kept m → Stands m base.list
       one k = subst (Stands m) (ap (λ (l : List Publication). base.list ++ l)
           (nothing k.first k.later (sym none ∙ k.joined))
           ∙ append-nil base.list) k.stands
 
-      of : StandsKept base.list goes.run.begun kept m ⊎ StandsForOne base.early m → Stands m base.list
+      of : StandsKept base.list goes.outcome.run.begun kept m ⊎ StandsForOne base.early m → Stands m base.list
           ⊎ StandsForOne base.early m
       of (inl k) = inl (one k)
       of (inr e) = inr e
 
-      by : (status : Status) → HasNoStore status → StandsAtExit status base goes.run.begun kept m
+      by : (status : Status) → HasNoStore status → StandsAtExit status base goes.outcome.run.begun kept m
           → Stands m base.list ⊎ StandsForOne base.early m
       by Done c k = absurd c
       by Memory c k = of k
@@ -377,43 +382,44 @@ module _ (v : Devices) (life : Life v) (base : Base) (goes : Goes v life (Some b
       by (Refused limit) c k = absurd c
       by (Damaged expected found) c k = absurd c
 
-  leaves_opened : kept ≡ [] → MayLeave base goes.run.begun kept base.list
+  leaves_opened : kept ≡ [] → MayLeave base goes.outcome.run.begun kept base.list
   leaves_opened none = inl record {
     first = [];
-    later = goes.run.begun;
+    later = goes.outcome.run.begun;
     more = [];
     joined = refl;
     holds = sym (append-nil kept ∙ none);
     list_is = sym (append-nil base.list);
   }
 
-  closed_found : (d : disk.State) → HasNoStore goes.status → Again base.list base.early d → Found kept d
+  closed_found : (d : disk.State) → HasNoStore goes.outcome.status → Again base.list base.early d → Found kept d
   closed_found d closed a =
       let none = kept_none closed in
       record {
         now = a.now;
         others = a.others;
         store = a.store;
-        each = all_map (λ l. (l ≡ base.list) ⊎ IsAmong base.early l) (MayLeave base goes.run.begun kept)
+        each = all_map (λ l. (l ≡ base.list) ⊎ IsAmong base.early l) (MayLeave base goes.outcome.run.begun kept)
             (a.now ∷ a.others)
             (may none) a.each;
       }
     where
       may : kept ≡ [] → (l : List Publication) → (l ≡ base.list) ⊎ IsAmong base.early l
-          → MayLeave base goes.run.begun kept l
-      may none l (inl e) = subst (MayLeave base goes.run.begun kept) (sym e) (leaves_opened none)
+          → MayLeave base goes.outcome.run.begun kept l
+      may none l (inl e) = subst (MayLeave base goes.outcome.run.begun kept) (sym e) (leaves_opened none)
       may none l (inr one) = inr (none, one)
 
   stay_found : IsStore base.list base.early (v.state life.old) → IsClear (v.state life.new)
       → IsImage (v.state life.new) (v.state life.new).present → Found kept (v.state life.new)
-  stay_found entry clear image = by (opened_or_closed goes.status goes.run.of_store)
+  stay_found entry clear image = by (opened_or_closed goes.outcome.status goes.outcome.run.of_store)
     where
-      by : WasOpened goes.status ⊎ HasNoStore goes.status → Found kept (v.state life.new)
-      by (inl o) = opened_found (v.state life.new) goes.run.state.halted refl
-          (rested goes.status goes.run.state (v.state life.new) o goes.run.rests) clear image
+      by : WasOpened goes.outcome.status ⊎ HasNoStore goes.outcome.status → Found kept (v.state life.new)
+      by (inl o) = opened_found (v.state life.new) goes.outcome.run.state.halted refl
+          (rested goes.outcome.status goes.outcome.run.state (v.state life.new) o goes.outcome.run.rests) clear image
       by (inr c) = closed_found (v.state life.new) c
           (again base.list base.early (v.state life.old) (v.state life.new) entry clear
-          (λ m possible. closed_maps goes.status m c (begun_none c) (goes.run.at_exit m possible)) image)
+          (λ m possible. closed_maps goes.outcome.status m c (begun_none c) (goes.outcome.run.at_exit m possible))
+          image)
 
   link_found : (next : Life v) (link : Succeeds v life next) → IsStore base.list base.early (v.state life.old)
       → Found (acked_by v life next link base goes) (v.state next.old)
@@ -454,10 +460,10 @@ next_run v list early last life earlier line told meets before f =
     every : (x : Publication) → Contains had x
         ⊎ HasAcked v list early life earlier line.1 before.now before.others before.finds x
         → AllByRecursion (λ l. Contains l x) (f.now ∷ f.others)
-    every x (inl c) = all_map (MayLeave base before.goes.run.begun had) (λ l. Contains l x) (f.now ∷ f.others)
-        (λ l may. holds_kept base before.goes.run.begun had l x may c) f.each
-    every x (inr w) = all_map (MayLeave base before.goes.run.begun had) (λ l. Contains l x) (f.now ∷ f.others)
-        (λ l may. holds_before base before.goes.run.begun had l x may (before.every x w)) f.each
+    every x (inl c) = all_map (MayLeave base before.goes.outcome.run.begun had) (λ l. Contains l x) (f.now ∷ f.others)
+        (λ l may. holds_kept base before.goes.outcome.run.begun had l x may c) f.each
+    every x (inr w) = all_map (MayLeave base before.goes.outcome.run.begun had) (λ l. Contains l x) (f.now ∷ f.others)
+        (λ l may. holds_before base before.goes.outcome.run.begun had l x may (before.every x w)) f.each
 
 pub continues : (v : Devices) → Continues v
 continues v told list early last [] line meets =

@@ -11,7 +11,7 @@ use Rattle.cdb_model.specs.Maps.{Content, FileMap}
 use Rattle.cdb_model.specs.Publications.{Publication}
 use Rattle.cdb_model.specs.Runs.{Item, Run}
 use Rattle.cdb_model.specs.Stands.{Stands}
-use Rattle.cdb_model.specs.Stores.{known, any, any_store}
+use Rattle.cdb_model.specs.Stores.{known, any, known_store, any_store}
 use Rattle.cdb_model.specs.Text.{Text}
 use Rattle.cdb_model.specs.Transitions.{StateIn, IsFreshIn}
 use Rattle.cdb_model.proofs.BegunLaws.{acknowledged_complete}
@@ -21,9 +21,9 @@ use Rattle.cdb_files.specs.Disk.{IsImage}
 use Rattle.cdb_files.specs.Moments.{AddsOnly}
 use Rattle.cdb_engine.specs.Store.{IsStore}
 use Rattle.cdb_front.specs.EntryStore.{HasStore, IsKnown}
-use Rattle.cdb_front.proofs.Followed.{IsLeftBy, IsFollowed, IsBegun}
-use Rattle.cdb_front.specs.RunOutcome.{EndsFrom, EndsWith, StopsScript, Outcome, WasOpened, HasNoStore, IsOfStore, StandsAtExit, IsLeftAtRest, RestsAt}
-use Rattle.cdb_front.specs.RunProgress.{Sight, RunStart, Holds, Runs, Ordered, Told, base_of}
+use Rattle.cdb_front.proofs.Followed.{IsLeftBy, IsFollowed}
+use Rattle.cdb_front.specs.RunOutcome.{EndsFrom, EndsUnwritten, Unwritten, EndsWith, StopsScript, Outcome, WasOpened, HasNoStore, IsOfStore, StandsAtExit, IsLeftAtRest, RestsAt}
+use Rattle.cdb_front.specs.RunProgress.{Sight, RunStart, Holds, Runs, Told, base_of}
 use Rattle.cdb_front.specs.declared.exit_status.Status.{Status}
 use Rattle.cdb_front.specs.declared.exit_status.Status.TheVariants.{Done, Memory, Usage, InputFault, OutputFault, StoreFault, NotAStore, TooLong, Differs, Refused, Damaged}
 
@@ -149,15 +149,18 @@ pub ended : (Has : Text → Content → Type 0) (tells : Type 0) (from : Option 
     (answers : List Answer) (wrote : Text)
     (moment : ℕ) (Since : ℕ → FileMap → Type 0) (entry d : disk.State) (Now : Base → KnownState → Type 0)
     → ((base : Base) (s : KnownState) → Now base s → IsFollowed base s (Since base.moment) d)
-    → WasOpened status → IsKnown tells from moment entry → Runs Has from items answers (Now (base_of from))
+    → WasOpened status → IsKnown tells from moment entry
+    → Runs Has from items answers (λ s. Now (base_of from) s
+    × EndsUnwritten status known_store Has (start_at (base_of from).list) items answers s)
     → EndsFrom Has from status items answers wrote (Since moment) d
 ended Has tells None status items answers wrote moment Since entry d Now followed opened knows runs = tt
 ended Has tells (Some base) status items answers wrote moment Since entry d Now followed opened knows runs =
-    let f = followed base runs.next runs.now in
+    let f = followed base runs.next runs.now.0 in
     let first = kept_first Has base.list runs.next items answers f.begun wrote runs.step f.has_begun in
     record {
       state = runs.next;
       run = runs.step;
+      last = runs.now.1;
       begun = f.begun;
       has_begun = f.has_begun;
       since = λ m was. f.since m (subst (λ (t : ℕ). Since t m) (sym knows.now) was);
@@ -176,18 +179,13 @@ Starts None Now = Unit {0}
 Starts (Some base) Now = Now (start_at base.list)
 
 -- nothing was answered yet
-pub told_begins : {tells : Type 0} (e : RunStart) (faults : ℕ) (Now : Sight) → e.disk ≤ faults → Starts e.from (Now known)
-    → IsBegun (Now any)
-    → Told tells e [] e.written e.shelf faults Now
-told_begins {tells = tells} e faults Now later begins fresh =
+pub told_begins : {tells : Type 0} (e : RunStart) (faults : ℕ) (Now : Sight) → e.disk ≤ faults
+    → Starts e.from (Now known) → Now any e.start → Told tells e [] e.written e.shelf faults Now
+told_begins {tells = tells} e faults Now later begins start =
     record {
       answers = [];
       run = by e.from begins;
-      order = record {
-        start = fresh.start;
-        fresh = fresh.fresh;
-        leads = record { next = fresh.start; step = (refl, refl); now = fresh.now };
-      };
+      order = record { next = e.start; step = (refl, refl); now = start };
       shelf_counted = λ short. omega arith;
       disk_counted = λ short. omega arith;
       appended = Appends-nil e.written;
@@ -259,7 +257,7 @@ nothing_yet = record {
   opened = 0;
 }
 
-fresh_yet : IsFreshIn any_store nothing_yet
+pub fresh_yet : IsFreshIn any_store nothing_yet
 fresh_yet = record { pending = refl; going = refl; halted = refl; sessions = refl; opened = refl }
 
 -- of a store that wasn't opened: the state is that of its list
@@ -273,8 +271,7 @@ starts_shut (Some base) = refl
 
 pub told_shut : {tells : Type 0} (e : RunStart) (faults : ℕ) → e.disk ≤ faults
     → Told tells e [] e.written e.shelf faults (Shut e.from)
-told_shut e faults later = told_begins e faults (Shut e.from) later (starts_shut e.from) record
-    { start = nothing_yet; fresh = fresh_yet; now = tt }
+told_shut e faults later = told_begins e faults (Shut e.from) later (starts_shut e.from) tt
 
 rests_shut : (status : Status) (s : KnownState) (d : disk.State) → HasNoStore status → RestsAt status s d
 rests_shut Done s d c = absurd c
@@ -314,7 +311,8 @@ pub closed : {D : Type 0} (tells : Type 0) (Has : Text → Content → Type 0) (
     → AddsOnly clock since old new (StandsForOne (list ∷ early)))
     → ((m : FileMap) → since old (clock old) m → IsImage (state old) m)
     → ((m : FileMap) → clock old ≤ clock new → IsImage (state new) m → since new (clock old) m)
-    → Runs Has from items answers (Shut from known)
+    → Runs Has from items answers (λ s. Shut from known s
+    × EndsUnwritten status known_store Has (start_at (base_of from).list) items answers s)
     → EndsFrom Has from status items answers wrote (since new (clock old)) (state new)
 closed tells Has clock since state old new None status items answers wrote shut of_store knows moments only_now
     counts_now runs = tt
@@ -323,11 +321,12 @@ closed tells Has clock since state old new (Some base) status items answers wrot
     record {
       state = runs.next;
       run = runs.step;
+      last = runs.now.1;
       begun = [];
       has_begun = record {
         complete = [];
-        list_is = ap (λ (s : KnownState). s.list) runs.now ∙ sym (append-nil base.list);
-        begun_is = ap (λ (s : KnownState). unfinished s.going s.halted) (sym runs.now);
+        list_is = ap (λ (s : KnownState). s.list) runs.now.0 ∙ sym (append-nil base.list);
+        begun_is = ap (λ (s : KnownState). unfinished s.going s.halted) (sym runs.now.0);
       };
       since = since_entry;
       at_exit = λ m image. exit_shut status base kept m shut (either m (since_entry m (counts_now m adds.later image)));
@@ -359,28 +358,20 @@ closed tells Has clock since state old new (Some base) status items answers wrot
 
 -- ---- the whole outcome
 
-unlabelled : {Has : Text → Content → Type 0} {items : List Item} {answers : List Answer}
-    {Now : StateIn any_store → Type 0} → Ordered Has items answers Now → Ordered Has items answers (λ s. Unit {0})
-unlabelled o = record {
-  start = o.start;
-  fresh = o.fresh;
-  leads = record { next = o.leads.next; step = o.leads.step; now = tt };
-}
-
-pub outcome : {tells : Type 0} {e : RunStart} {shelf faults : ℕ} {left left' written written' : Option (List ℕ)}
-    {Now : Sight} (status result : Status) (Since : FileMap → Type 0) (d : disk.State)
+abbrev pub whole_outcome : {tells : Type 0} {e : RunStart} {shelf faults : ℕ}
+    {left left' written written' : Option (List ℕ)} {Now : Sight} (status result : Status) (Since : FileMap → Type 0) (d : disk.State)
     → ((items : List Item) (answers : List Answer) (wrote : Text)
-    → Runs (Holds tells e.files) e.from items answers (Now known)
+    → Runs (Holds tells e.files) e.from items answers (Unwritten tells e status items answers Now known)
     → EndsFrom (Holds tells e.files) e.from status items answers wrote Since d)
     → StopsScript tells e shelf faults left left' written Now status → EndsWith status written written' result
     → Outcome tells e shelf faults left left' written' Since d result
-outcome {written = written} status result Since d ends s line =
+whole_outcome {written = written} status result Since d ends s line =
     record {
       status = status;
       written = written;
       transcript = s.transcript;
       run = ends s.transcript.items s.transcript.answers s.transcript.wrote s.run;
-      order = unlabelled s.order;
+      order = record { next = s.order.next; step = s.order.step; now = s.order.now.1 };
       ends = line;
     }
 
@@ -391,7 +382,8 @@ pub unopened : {D : Type 0} (tells : Type 0) (Has : Text → Content → Type 0)
     → IsKnown tells from (clock d) (state d)
     → ((m : FileMap) → since d (clock d) m → IsImage (state d) m)
     → ((m : FileMap) → clock d ≤ clock d → IsImage (state d) m → since d (clock d) m)
-    → Runs Has from items answers (Shut from known)
+    → Runs Has from items answers (λ s. Shut from known s
+    × EndsUnwritten status known_store Has (start_at (base_of from).list) items answers s)
     → EndsFrom Has from status items answers wrote (since d (clock d)) (state d)
 unopened tells Has clock since state d from status items answers wrote shut of_store knows only_now counts_now runs =
     closed tells Has clock since state d d from status items answers wrote shut

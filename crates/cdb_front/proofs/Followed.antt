@@ -6,8 +6,6 @@ use Rattle.cdb_model.specs.KnownStore.{KnownState, Going}
 use Rattle.cdb_model.specs.Maps.{FileMap}
 use Rattle.cdb_model.specs.Publications.{Publication}
 use Rattle.cdb_model.specs.Stands.{Stands}
-use Rattle.cdb_model.specs.Stores.{any_store}
-use Rattle.cdb_model.specs.Transitions.{StateIn, IsFreshIn}
 use Rattle.cdb_crash.specs.Crash.{IsWhole, IsEither}
 use Rattle.cdb_files.specs.Disk as disk
 use Rattle.cdb_files.specs.Disk.{IsImage}
@@ -26,9 +24,3 @@ pub record IsFollowed (base : Base) (s : KnownState) (Since : FileMap → Type 0
   pub has_begun : HasBegun base.list s begun
   pub since : (m : FileMap) → Since m → StandsSince base begun m
   pub left : IsLeftBy s d
-
--- whatever the disk holds, a state is one of now in which nothing is pending, going or open
-pub record IsBegun (Now : StateIn any_store → Type 0) : Type 0 where
-  pub start : StateIn any_store
-  pub fresh : IsFreshIn any_store start
-  pub now : Now start

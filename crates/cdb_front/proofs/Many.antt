@@ -49,7 +49,7 @@ record Added (v : Devices) (life : Life v) (m : FileMap) (stop : StopLeaves v li
 added : (v : Devices) (life : Life v) (m : FileMap) (stop : StopLeaves v life m) (opened : List Publication)
     → Goes v life (Some (whole_for v opened life)) → Added v life m stop opened
 added v life m (amid since) opened goes =
-    let s = since_early opened (v.clock life.old) goes.run.begun m (goes.run.since m since) in
+    let s = since_early opened (v.clock life.old) goes.outcome.run.begun m (goes.outcome.run.since m since) in
     record {
       now = opened ++ s.first;
       adds = record {
@@ -64,8 +64,9 @@ added v life m (amid since) opened goes =
       stands = s.stands;
     }
 added v life m (at_end image) opened goes =
-    let s = no_early goes.status opened (v.clock life.old) goes.run.begun
-    (acknowledged goes.run.begun goes.transcript.answers goes.transcript.wrote) m (goes.run.at_exit m image) in
+    let s = no_early goes.outcome.status opened (v.clock life.old) goes.outcome.run.begun
+    (acknowledged goes.outcome.run.begun goes.outcome.transcript.answers goes.outcome.transcript.wrote) m
+    (goes.outcome.run.at_exit m image) in
     record {
       now = opened ++ s.first;
       adds = record {

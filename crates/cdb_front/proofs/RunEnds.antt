@@ -1,11 +1,17 @@
 -- How a run stops.
-use Rattle.std.proofs.Common.{◌≡◌, ℕ, ◌+◌, ◌<◌, ◌≤◌, ◌^◌, List, [], ◌∷◌, ◌++◌, length, Option, Some, Err, inl, inr, refl, ap, sym, ◌∙◌, append_assoc, append-nil, subst, arith, length-append}
+use Rattle.std.proofs.Common.{◌≡◌, ℕ, ◌+◌, ◌<◌, ◌≤◌, ◌^◌, List, [], ◌∷◌, ◌++◌, length, Option, None, Some, Err, inl, inr, refl, ap, sym, ◌∙◌, append_assoc, append-nil, subst, arith, length-append}
 use Rattle.std.specs.Io.KnownBytes.{Consumes, IsAtEnd}
 use Rattle.std.proofs.KnownBytes.{Consumes-nil, Consumes-trans}
 use Rattle.cdb_model.specs.AnswerTexts.{texts_of}
-use Rattle.cdb_model.specs.Runs.{items_of}
-use Rattle.cdb_model.specs.Maps.{FileMap}
+use Rattle.cdb_model.specs.Causes.{Rose}
+use Rattle.cdb_model.specs.Events as machine
+use Rattle.cdb_model.specs.Images.{Base}
+use Rattle.cdb_model.specs.KnownStore.{KnownState, start_at}
+use Rattle.cdb_model.specs.Maps.{Content, FileMap}
+use Rattle.cdb_model.specs.Runs.{Item, Run, RunIn, items_of}
+use Rattle.cdb_model.specs.Stores.{Kind, known, any, known_store, any_store}
 use Rattle.cdb_model.specs.Text.{Text}
+use Rattle.cdb_model.specs.Transitions.{StateIn}
 use Rattle.cdb_chain.specs.declared.open_error.OpenError.{OpenError}
 use Rattle.cdb_chain.specs.declared.open_error.OpenError.TheVariants as refused
 use Rattle.cdb_manifest.specs.declared.record_.Record.{Record}
@@ -13,10 +19,12 @@ use Rattle.cdb_check.specs.declared.outcome.CheckError.{CheckError}
 use Rattle.cdb_check.specs.declared.outcome.CheckError.TheVariants as check
 use Rattle.cdb_engine.specs.Checks.{AreOpened}
 use Rattle.cdb_engine.specs.Store.{IsStoreFound, TellsNoStore}
+use Rattle.cdb_engine.specs.Tracks.{Leads}
+use Rattle.cdb_front.specs.Beginning.{IsReadFrom, BeginsAsRead}
 use Rattle.cdb_front.specs.inside.Checking.{checked_status}
-use Rattle.cdb_front.specs.Failures.{ReadsOnce}
-use Rattle.cdb_front.specs.RunOutcome.{StopsScript, IsOfStore, Hears, AllMade, WritesAnswers, EndsScript, HasRecords, SaysStore, WasOpened, HasNoStore, status_of}
-use Rattle.cdb_front.specs.RunProgress.{Sight, RunStart, Told, RunSoFar, Answered, IsQuit, Broken, UpTo}
+use Rattle.cdb_front.specs.Failures.{ReadsOnce, EndsReading}
+use Rattle.cdb_front.specs.RunOutcome.{StopsScript, IsOfStore, Hears, AllMade, WritesAnswers, EndsScript, EndsUnwritten, HasRecords, SaysStore, WasOpened, HasNoStore, status_of}
+use Rattle.cdb_front.specs.RunProgress.{Sight, RunStart, Holds, Runs, first_state, Told, RunSoFar, Answered, IsQuit, Broken, UpTo}
 use Rattle.cdb_front.specs.inside.RunReading.{Reading}
 use Rattle.cdb_front.specs.declared.exit_status.Status.{Status}
 use Rattle.cdb_front.specs.declared.exit_status.Status.TheVariants.{Done, Memory, Usage, InputFault, OutputFault, StoreFault, NotAStore, TooLong, Differs, Refused, Damaged}
@@ -57,6 +65,18 @@ reading_more {left = left} {left' = left'} left'' count piece r more long s =
       count = omega (arith, r.count, length-append r.read piece);
     }
 
+-- ---- where the answers were written whole, nothing is said of the last
+
+leads_with : {S : Type 0} (Step Now P : S → Type 0) → ((s : S) → P s) → Leads Step Now → Leads Step (λ s. Now s × P s)
+leads_with Step Now P all led = record { next = led.next; step = led.step; now = (led.now, all led.next) }
+
+runs_with : (Has : Text → Content → Type 0) (from : Option Base) (items : List Item) (answers : List machine.Answer)
+    (Now P : KnownState → Type 0) → ((s : KnownState) → P s) → Runs Has from items answers Now
+    → Runs Has from items answers (λ s. Now s × P s)
+runs_with Has None items answers Now P all runs = tt
+runs_with Has (Some base) items answers Now P all runs =
+    leads_with (Run Has (start_at base.list) items answers) Now P all runs
+
 -- ---- all that was read was answered
 
 -- the last line that was read was answered too
@@ -65,7 +85,8 @@ done : {tells : Type 0} {e : RunStart} (P : Text → Type 0) (read unread : Text
     → Consumes left left' (read ++ unread) → length (read ++ unread) ≤ 2 ^ 32 → length unread ≤ 4096
     → (a : Answered tells e P read written shelf disk Now)
     → EndsScript Done left' read unread a.rest → StopsScript tells e shelf disk left left' written Now Done
-done P read unread left left' written shelf disk Now taken few small a finishes =
+done {tells = tells} {e = e} P read unread left left' written shelf disk Now taken few small a finishes =
+    let items = items_of e.most (a.lines ++ a.rest ∷ []) in
     record {
       transcript = record {
         read = read;
@@ -79,7 +100,7 @@ done P read unread left left' written shelf disk Now taken few small a finishes 
         no_quit = a.no_quit;
         heard = a.lines ++ a.rest ∷ [];
         hears = refl;
-        items = _;
+        items = items;
         unmade = [];
         items_are = sym (append-nil _);
         makes = refl;
@@ -91,8 +112,10 @@ done P read unread left left' written shelf disk Now taken few small a finishes 
         writes = refl;
         finishes = finishes;
       };
-      run = a.told.run;
-      order = a.told.order;
+      run = runs_with (Holds tells e.files) e.from items a.told.answers (Now known) (λ s. Unit {0}) (λ s. tt)
+          a.told.run;
+      order = leads_with (RunIn any_store (Holds tells e.files) e.start items a.told.answers) (Now any) (λ s. Unit {0})
+          (λ s. tt) a.told.order;
     }
 
 -- its answer wasn't written whole
@@ -239,9 +262,15 @@ cut_off : {tells : Type 0} {e : RunStart} {left left' written : Option (List ℕ
     → AllMade status e.most r.sofar.lines (items_of e.most r.sofar.lines) []
     → WritesAnswers status r.sofar.told.answers (texts_of r.sofar.told.answers)
     → EndsScript status left'' r.read [] r.sofar.rest
+    → ((k : Kind) (old : StateIn k) (s : StateIn k)
+    → EndsUnwritten status k (Holds tells e.files) old (items_of e.most r.sofar.lines) r.sofar.told.answers s)
     → StopsScript tells e shelf disk left left'' written Now status
-cut_off {left = left} {left' = left'} {taken = taken} status left'' r more few heard hears same makes writes finishes =
+cut_off {tells = tells} {e = e} {left = left} {left' = left'} {Now = Now} {taken = taken} status left'' r more few heard
+    hears same makes writes finishes whole =
     let p = at_end left left' left'' r.read taken r.count r.input more few in
+    let items = items_of e.most r.sofar.lines in
+    let answers = r.sofar.told.answers in
+    let Has = Holds tells e.files in
     record {
       transcript = record {
         read = r.read;
@@ -255,7 +284,7 @@ cut_off {left = left} {left' = left'} {taken = taken} status left'' r more few h
         no_quit = r.sofar.no_quit;
         heard = heard;
         hears = hears;
-        items = _;
+        items = items;
         unmade = [];
         items_are = same ∙ sym (append-nil _);
         makes = makes;
@@ -267,8 +296,11 @@ cut_off {left = left} {left' = left'} {taken = taken} status left'' r more few h
         writes = writes;
         finishes = finishes;
       };
-      run = r.sofar.told.run;
-      order = r.sofar.told.order;
+      run = runs_with Has e.from items answers (Now known)
+          (EndsUnwritten status known_store Has (first_state e known) items answers)
+          (whole known_store (first_state e known)) r.sofar.told.run;
+      order = leads_with (RunIn any_store Has e.start items answers) (Now any)
+          (EndsUnwritten status any_store Has e.start items answers) (whole any_store e.start) r.sofar.told.order;
     }
 
 pub stops_input : {tells : Type 0} {e : RunStart} {left left' written : Option (List ℕ)} {shelf disk : ℕ} {Now : Sight}
@@ -277,7 +309,7 @@ pub stops_input : {tells : Type 0} {e : RunStart} {left left' written : Option (
     → StopsScript tells e shelf disk left left'' written Now InputFault
 stops_input left'' r more room =
     cut_off InputFault left'' r more (omega (arith, room)) r.sofar.lines refl refl refl refl
-    (refl, subst (λ n. n < 2 ^ 32) r.count room)
+    (refl, subst (λ n. n < 2 ^ 32) r.count room) (λ k old s. tt)
 
 pub stops_long : {tells : Type 0} {e : RunStart} {left left' written : Option (List ℕ)} {shelf disk : ℕ} {Now : Sight}
     {kept : Option (List ℕ)} {taken : ℕ}
@@ -285,7 +317,7 @@ pub stops_long : {tells : Type 0} {e : RunStart} {left left' written : Option (L
     → StopsScript tells e shelf disk left left' written Now TooLong
 stops_long {left' = left'} r all =
     cut_off TooLong left' r (Consumes-nil left') (omega (arith, all)) r.sofar.lines refl refl refl refl
-    (refl, sym r.count ∙ all)
+    (refl, sym r.count ∙ all) (λ k old s. tt)
 
 -- the store wasn't opened
 pub stops_closed : {tells : Type 0} {e : RunStart} (status : Status) (left written : Option (List ℕ)) (shelf disk : ℕ)
@@ -298,10 +330,13 @@ stops_closed {tells = tells} {e = e} status left written shelf disk Now closed t
 
     by : (status : Status) → HasNoStore status → StopsScript tells e shelf disk left left written Now status
     by Memory c = cut_off Memory left r (Consumes-nil left) (omega arith) [] refl refl refl refl (refl, refl)
+        (λ k old s. tt)
     by Usage c = cut_off Usage left r (Consumes-nil left) (omega arith) [] refl refl refl refl (refl, refl)
+        (λ k old s. tt)
     by StoreFault c = cut_off StoreFault left r (Consumes-nil left) (omega arith) [] refl refl refl refl (refl, refl)
+        (λ k old s. tt)
     by (NotAStore version place) c = cut_off (NotAStore version place) left r (Consumes-nil left) (omega arith) [] refl
-        refl refl refl (refl, refl)
+        refl refl refl (refl, refl) (λ k old s. tt)
     by Done c = absurd c
     by InputFault c = absurd c
     by OutputFault c = absurd c
@@ -409,3 +444,67 @@ reads_whole status result before now same once read wrote = by status once (λ e
     by (Differs path) once read = once
     by (Refused limit) once read = once
     by (Damaged expected found) once read = once
+
+-- no read failed, or the last one
+pub ends_reading : (status : Status) (before now : ℕ) (left failed_at : Option (List ℕ))
+    → (status ≡ InputFault → Rose before now) → (status ≡ InputFault → left ≡ failed_at) → ReadsOnce status before now
+    → EndsReading status before now left failed_at
+ends_reading InputFault before now left failed_at rose stops once =
+    record { rose = rose refl; once = once; stops = stops refl }
+ends_reading Done before now left failed_at rose stops once = once
+ends_reading Memory before now left failed_at rose stops once = once
+ends_reading Usage before now left failed_at rose stops once = once
+ends_reading OutputFault before now left failed_at rose stops once = once
+ends_reading StoreFault before now left failed_at rose stops once = once
+ends_reading (NotAStore version place) before now left failed_at rose stops once = once
+ends_reading TooLong before now left failed_at rose stops once = once
+ends_reading (Differs path) before now left failed_at rose stops once = once
+ends_reading (Refused limit) before now left failed_at rose stops once = once
+ends_reading (Damaged expected found) before now left failed_at rose stops once = once
+
+-- nothing was read
+pub reads_none : (status : Status) (faults : ℕ) (left failed_at : Option (List ℕ)) → HasNoStore status
+    → EndsReading status faults faults left failed_at
+reads_none Memory faults left failed_at closed = refl
+reads_none Usage faults left failed_at closed = refl
+reads_none StoreFault faults left failed_at closed = refl
+reads_none (NotAStore version place) faults left failed_at closed = refl
+reads_none Done faults left failed_at closed = absurd closed
+reads_none InputFault faults left failed_at closed = absurd closed
+reads_none OutputFault faults left failed_at closed = absurd closed
+reads_none TooLong faults left failed_at closed = absurd closed
+reads_none (Differs path) faults left failed_at closed = absurd closed
+reads_none (Refused limit) faults left failed_at closed = absurd closed
+reads_none (Damaged expected found) faults left failed_at closed = absurd closed
+
+-- ---- the beginning
+
+-- the store was opened, by its records
+pub begins_read : (status : Status) (tells : Type 0) (present : FileMap) (start : StateIn any_store)
+    → (tells → IsReadFrom present start) → BeginsAsRead tells present start status
+begins_read Done tells present start read = read
+begins_read InputFault tells present start read = read
+begins_read OutputFault tells present start read = read
+begins_read TooLong tells present start read = read
+begins_read Memory tells present start read = tt
+begins_read Usage tells present start read = tt
+begins_read StoreFault tells present start read = tt
+begins_read (NotAStore version place) tells present start read = tt
+begins_read (Differs path) tells present start read = tt
+begins_read (Refused limit) tells present start read = tt
+begins_read (Damaged expected found) tells present start read = tt
+
+-- it wasn't
+pub begins_shut : (status : Status) (tells : Type 0) (present : FileMap) (start : StateIn any_store)
+    → HasNoStore status → BeginsAsRead tells present start status
+begins_shut Memory tells present start closed = tt
+begins_shut Usage tells present start closed = tt
+begins_shut StoreFault tells present start closed = tt
+begins_shut (NotAStore version place) tells present start closed = tt
+begins_shut Done tells present start closed = absurd closed
+begins_shut InputFault tells present start closed = absurd closed
+begins_shut OutputFault tells present start closed = absurd closed
+begins_shut TooLong tells present start closed = absurd closed
+begins_shut (Differs path) tells present start closed = tt
+begins_shut (Refused limit) tells present start closed = tt
+begins_shut (Damaged expected found) tells present start closed = tt

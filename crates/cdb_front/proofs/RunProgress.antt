@@ -27,7 +27,7 @@ use Rattle.cdb_front.specs.Devices.{WritesPart}
 use Rattle.cdb_engine.specs.Tracks.{Leads}
 use Rattle.cdb_front.specs.Hearing.{IsEvent, IsAnswered, SaysAsked}
 use Rattle.cdb_front.specs.Kept.{kept_of}
-use Rattle.cdb_front.specs.RunProgress.{Sight, RunStart, Holds, Runs, Ordered, Told, Torn, RunSoFar, Answered, IsQuit, IsNotQuit, TakesLine, UpTo}
+use Rattle.cdb_front.specs.RunProgress.{Sight, RunStart, Holds, Runs, EndsByAnswer, base_of, Told, Torn, RunSoFar, Answered, IsQuit, IsNotQuit, TakesLine, UpTo}
 use Rattle.cdb_front.specs.inside.RunProgress.{TornIn, Speaks, Stammers, SpeaksFed, TellsFed}
 use Rattle.cdb_front.specs.Stepping.{Counts}
 use Rattle.cdb_front.specs.declared.answers.Answer.{Answer}
@@ -63,37 +63,64 @@ Run-more k Has old mid new (i ∷ items) item answers now r passes =
       rest = Run-more k Has r.mid mid new items item r.later now r.rest passes;
     }
 
+-- one item more, and the state to which it comes
+leads_more : (k : Kind) (Has : Text → Content → Type 0) (old : StateIn k) (items : List Item) (item : Item)
+    (answers now : List machine.Answer) (Now New : StateIn k → Type 0)
+    → Leads (RunIn k Has old items answers) Now → ((s : StateIn k) → Now s → Leads (PassesIn k Has s item now) New)
+    → Leads (RunIn k Has old (items ++ item ∷ []) (answers ++ now)) New
+leads_more k Has old items item answers now Now New run on =
+    let led = on run.next run.now in
+    record {
+      next = led.next;
+      step = Run-more k Has old run.next led.next items item answers now run.step led.step;
+      now = led.now;
+    }
+
+-- one item more, which gives one answer
+leads_last : (k : Kind) (Has : Text → Content → Type 0) (old : StateIn k) (items : List Item) (item : Item)
+    (answers : List machine.Answer) (answer : machine.Answer) (Now New : StateIn k → Type 0)
+    → Leads (RunIn k Has old items answers) Now
+    → ((s : StateIn k) → Now s → Leads (PassesIn k Has s item (answer ∷ [])) New)
+    → Leads (RunIn k Has old (items ++ item ∷ []) (answers ++ answer ∷ []))
+    (λ s. New s × EndsByAnswer k Has old (items ++ item ∷ []) (answers ++ answer ∷ []) s)
+leads_last k Has old items item answers answer Now New run on =
+    let led = on run.next run.now in
+    record {
+      next = led.next;
+      step = Run-more k Has old run.next led.next items item answers (answer ∷ []) run.step led.step;
+      now = (
+        led.now,
+        record {
+          before = items;
+          item = item;
+          items_are = refl;
+          whole = answers;
+          answer = answer;
+          answers_are = refl;
+          mid = run.next;
+          run = run.step;
+          passes = led.step;
+        },
+      );
+    }
+
 Runs-more : (Has : Text → Content → Type 0) (from : Option Base) (items : List Item) (item : Item)
     (answers now : List machine.Answer) (Now New : KnownState → Type 0)
     → Runs Has from items answers Now → ((s : KnownState) → Now s → Leads (Passes Has s item now) New)
     → Runs Has from (items ++ item ∷ []) (answers ++ now) New
 Runs-more Has None items item answers now Now New runs on = tt
 Runs-more Has (Some base) items item answers now Now New runs on =
-    let led = on runs.next runs.now in
-    record {
-      next = led.next;
-      step = Run-more known_store Has (start_at base.list) runs.next led.next items item answers
-          now runs.step led.step;
-      now = led.now;
-    }
+    leads_more known_store Has (start_at base.list) items item answers now Now New runs on
 
--- the same whatever the disk holds
-Ordered-more : (Has : Text → Content → Type 0) (items : List Item) (item : Item) (answers now : List machine.Answer)
-    (Now New : StateIn any_store → Type 0)
-    → Ordered Has items answers Now → ((s : StateIn any_store) → Now s → Leads (PassesIn any_store Has s item now) New)
-    → Ordered Has (items ++ item ∷ []) (answers ++ now) New
-Ordered-more Has items item answers now Now New o on =
-    let led = on o.leads.next o.leads.now in
-    record {
-      start = o.start;
-      fresh = o.fresh;
-      leads = record {
-        next = led.next;
-        step = Run-more any_store Has o.start o.leads.next led.next items item answers
-            now o.leads.step led.step;
-        now = led.now;
-      };
-    }
+Runs-last : (Has : Text → Content → Type 0) (from : Option Base) (items : List Item) (item : Item)
+    (answers : List machine.Answer) (answer : machine.Answer) (Now New : KnownState → Type 0)
+    → Runs Has from items answers Now → ((s : KnownState) → Now s → Leads (Passes Has s item (answer ∷ [])) New)
+    → Runs Has from (items ++ item ∷ []) (answers ++ answer ∷ [])
+    (λ s. New s × EndsByAnswer known_store Has (start_at (base_of from).list) (items ++ item ∷ [])
+    (answers ++ answer ∷ []) s)
+Runs-last Has None items item answers answer Now New runs on = tt
+Runs-last Has (Some base) items item answers answer Now New runs on =
+    leads_last known_store Has (start_at base.list) items item answers answer Now New runs on
 
 -- ---- texts and counts
 
@@ -125,8 +152,8 @@ told_more {tells = tells} {e = e} {items = items} {written = written} {shelf = s
       answers = told.answers ++ speaks.answers;
       run = Runs-more (Holds tells e.files) e.from items item told.answers speaks.answers (Old known) (New known)
           told.run (speaks.passes known);
-      order = Ordered-more (Holds tells e.files) items item told.answers speaks.answers (Old any) (New any) told.order
-          (speaks.passes any);
+      order = leads_more any_store (Holds tells e.files) e.start items item told.answers speaks.answers (Old any)
+          (New any) told.order (speaks.passes any);
       shelf_counted = Counts-more shelf_fault e.shelf shelf shelf' told.answers speaks.answers told.shelf_counted
           speaks.shelf_counted;
       disk_counted = Counts-more disk_fault e.disk disk disk' told.answers speaks.answers told.disk_counted
@@ -146,10 +173,10 @@ told_torn {tells = tells} {e = e} {items = items} {written = written} {shelf = s
     record {
       whole = told.answers;
       answer = speaks.answer;
-      run = Runs-more (Holds tells e.files) e.from items item told.answers (speaks.answer ∷ []) (Old known) (New known)
+      run = Runs-last (Holds tells e.files) e.from items item told.answers speaks.answer (Old known) (New known)
           told.run (speaks.passes known);
-      order = Ordered-more (Holds tells e.files) items item told.answers (speaks.answer ∷ []) (Old any) (New any)
-          told.order (speaks.passes any);
+      order = leads_last any_store (Holds tells e.files) e.start items item told.answers speaks.answer (Old any)
+          (New any) told.order (speaks.passes any);
       shelf_counted = Counts-more shelf_fault e.shelf shelf shelf' told.answers (speaks.answer ∷ []) told.shelf_counted
           speaks.shelf_counted;
       disk_counted = Counts-more disk_fault e.disk disk disk' told.answers (speaks.answer ∷ []) told.disk_counted

@@ -78,5 +78,5 @@ each_served Has old (run.late most ∷ items) answers new r = each_served Has r.
 
 pub serves_tiles : (v : Devices) → ServesTiles v
 serves_tiles v life base goes =
-    each_served (Holds v.shelf_tells (v.files life.shelf)) (start_at base.list) goes.transcript.items
-    goes.transcript.answers goes.run.state goes.run.run
+    each_served (Holds v.shelf_tells (v.files life.shelf)) (start_at base.list) goes.outcome.transcript.items
+    goes.outcome.transcript.answers goes.outcome.run.state goes.outcome.run.run

@@ -11,9 +11,9 @@ use Rattle.cdb_model.specs.Maps.{Content, FileMap}
 use Rattle.cdb_model.specs.Publications.{Publication}
 use Rattle.cdb_model.specs.Runs.{TurnIn, Means}
 use Rattle.cdb_model.specs.Stands.{Stands}
-use Rattle.cdb_model.specs.Stores.{Kind, Which, store_kind, known, any, any_store}
+use Rattle.cdb_model.specs.Stores.{Kind, Which, store_kind, known, any}
 use Rattle.cdb_model.specs.Text.{Text}
-use Rattle.cdb_model.specs.Transitions.{StateIn, StepIn, IsFreshIn}
+use Rattle.cdb_model.specs.Transitions.{StateIn, StepIn}
 use Rattle.cdb_model.specs.declared.line.Line.{Line}
 use Rattle.cdb_crash.specs.Crash.{IsWhole, IsEither}
 use Rattle.cdb_files.specs.Disk as disk
@@ -27,7 +27,7 @@ use Rattle.cdb_engine.specs.Tracks.{Works, Tracks, Leads}
 use Rattle.cdb_engine.proofs.StayLaws.{stays_shows, stays_alike}
 use Rattle.cdb_front.specs.EngineStays.{StaysWith, origin_of}
 use Rattle.cdb_front.specs.EntryStore.{HasStore}
-use Rattle.cdb_front.proofs.Followed.{IsLeftBy, IsFollowed, IsBegun}
+use Rattle.cdb_front.proofs.Followed.{IsLeftBy, IsFollowed}
 use Rattle.cdb_front.specs.RunProgress.{Holds}
 use Rattle.cdb_front.specs.Sourcing.{LoadsFrom}
 use Rattle.cdb_front.proofs.Exits.{early_since}
@@ -135,9 +135,8 @@ module _ {D : Type 0} (tells : Type 0) (clock count : D → ℕ) (since : D → 
   }
 
   -- and, whatever the disk holds, with what it has
-  pub stays_bare : (d : D) (held : Held) → IsFreshIn any_store (bare_of held)
-      → IsBegun (λ s. StaysWith tells clock count since state base d held any s)
-  stays_bare d held fresh = record { start = bare_of held; fresh = fresh; now = record { is = refl } }
+  pub stays_bare : (d : D) (held : Held) → StaysWith tells clock count since state base d held any (bare_of held)
+  stays_bare d held = record { is = refl }
 
   -- and at the end the disk is what its state says
   left_by : (s : KnownState) (going : Option Going) (given_up : Option Publication) (work : Option publish.Publication)

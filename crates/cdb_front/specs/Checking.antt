@@ -12,7 +12,6 @@ use Rattle.cdb_files.specs.Disk as disk
 use Rattle.cdb_manifest.specs.declared.record_.Record.{Record}
 use Rattle.cdb_check.specs.Expected.{Agrees, FirstOther, expected_files}
 use Rattle.cdb_check.specs.Laws.{IsFileCount}
-use Rattle.cdb_check.specs.declared.outcome.CheckError.TheVariants as check
 use Rattle.cdb_engine.specs.Checks.{AreOpened}
 use Rattle.cdb_front.specs.Completeness.{Still}
 use Rattle.cdb_front.specs.Devices.{WritesPart}

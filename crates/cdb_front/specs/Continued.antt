@@ -1,13 +1,12 @@
 -- The program over any number of runs, each over what a stop of the one before left, or without a stop on the very disk
 -- that it left.
-use Rattle.std.specs.Prelude.{◌≡◌, ◌⊎◌, ℕ, List, [], ◌∷◌, ◌++◌, Option, Some, Contains}
+use Rattle.std.specs.Prelude.{◌≡◌, ◌⊎◌, List, [], ◌∷◌, ◌++◌, Some, Contains}
 use Rattle.std.specs.List.{AllByRecursion}
 use Rattle.cdb_model.specs.Begun.{acknowledged}
 use Rattle.cdb_model.specs.Images.{Base}
 use Rattle.cdb_model.specs.Maps.{FileMap}
 use Rattle.cdb_model.specs.Publications.{Publication}
 use Rattle.cdb_crash.specs.Crash.{IsClear}
-use Rattle.cdb_files.specs.Disk as disk
 use Rattle.cdb_files.specs.Disk.{IsImage}
 use Rattle.cdb_engine.specs.Store.{IsStore}
 use Rattle.cdb_front.specs.Headline.{Devices, Life, Goes, Reopens, AllMeet, StopLeaves, amid, at_end}
@@ -34,13 +33,13 @@ abbrev pub acked_at : (v : Devices) (life : Life v) (m : FileMap) (base : Base) 
     → List Publication
 acked_at v life m base (amid since) goes = []
 acked_at v life m base (at_end image) goes =
-    acknowledged goes.run.begun goes.transcript.answers goes.transcript.wrote
+    acknowledged goes.outcome.run.begun goes.outcome.transcript.answers goes.outcome.transcript.wrote
 
 abbrev pub acked_by : (v : Devices) (life next : Life v) → Succeeds v life next → (base : Base)
     → Goes v life (Some base) → List Publication
 acked_by v life next (stopped r) base goes = acked_at v life r.m base r.stop goes
 acked_by v life next (unstopped s) base goes =
-    acknowledged goes.run.begun goes.transcript.answers goes.transcript.wrote
+    acknowledged goes.outcome.run.begun goes.outcome.transcript.answers goes.outcome.transcript.wrote
 
 -- a list is the one that a run opened, followed by the first of the publications begun, with all that are to be kept
 pub record Extends (opened begun kept list : List Publication) : Type 0 where
@@ -72,7 +71,7 @@ pub record FindsLeft (v : Devices) (Before : List Publication → List (List Pub
   pub others : List (List Publication)
   pub before : Before opened others
   pub goes : Goes v life (Some (base_for v opened others life))
-  pub each : AllByRecursion (MayLeave (base_for v opened others life) goes.run.begun
+  pub each : AllByRecursion (MayLeave (base_for v opened others life) goes.outcome.run.begun
       (acked_by v life next link (base_for v opened others life) goes)) (list ∷ early)
 
 -- the last one finds this store: the one at first, or one that the run before may leave
@@ -109,24 +108,3 @@ abbrev pub Continues : Devices → Type 0
 Continues v = v.disk_tells → (list : List Publication) (early : List (List Publication)) (last : Life v)
     (earlier : List (Life v)) (line : Succession v list early last earlier) → AllMeet v last earlier
     → Carried v list early last earlier line
-
-abbrev pub ContinuesOf : {D H I O : Type 0} → Type 0 → (D → disk.State) → (D → ℕ) → (D → ℕ → FileMap → Type 0)
-    → (D → ℕ) → Type 0 → (H → FileMap) → (H → ℕ) → (I → Option (List ℕ)) → (O → Option (List ℕ)) → Type 0
-ContinuesOf {D = D} {H = H} {I = I} {O = O} disk_tells state clock since disk_faults shelf_tells files shelf_faults left
-    written =
-    Continues (record {
-      D = D;
-      H = H;
-      I = I;
-      O = O;
-      disk_tells = disk_tells;
-      state = state;
-      clock = clock;
-      since = since;
-      disk_faults = disk_faults;
-      shelf_tells = shelf_tells;
-      files = files;
-      shelf_faults = shelf_faults;
-      left = left;
-      written = written;
-    })

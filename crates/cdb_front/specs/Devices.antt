@@ -11,13 +11,14 @@ pub record WritesPart (old new : Option (List ℕ)) (piece : List ℕ) : Type 0 
   pub appended : Appends old new part
 
 -- an input in memory: what is left of it, how many bytes it gives at most in a call, the numbers of the calls that
--- fail, and how many calls there were and how many failed
+-- fail, how many calls there were and how many failed, and what was left when one failed last
 pub record Supply : Type 0 where
   pub left : List ℕ
   pub most : ℕ
   pub fails : List ℕ
   pub calls : ℕ
   pub faults : ℕ
+  pub failed_at : Option (List ℕ)
 
 -- an output in memory: what was written to it, the numbers of the calls that fail, and how many calls there were, how
 -- many failed and how often it was refused memory

@@ -1,6 +1,7 @@
 -- A run ends at its first call of the input or the output that fails: no further one follows, as the count of failures
 -- says.
-use Rattle.std.specs.Prelude.{◌≡◌, ℕ, ◌+◌, ◌≤◌, Result, Ok, Err}
+use Rattle.std.specs.Prelude.{◌≡◌, ℕ, ◌+◌, ◌≤◌, List, Option, Result, Ok, Err}
+use Rattle.cdb_model.specs.Causes.{Rose}
 use Rattle.cdb_front.specs.declared.exit_status.Status.{Status}
 use Rattle.cdb_front.specs.declared.exit_status.Status.TheVariants.{InputFault, OutputFault}
 use Rattle.cdb_front.specs.declared.fed.Fed.{Fed}
@@ -26,3 +27,19 @@ WritesOnce status before now = now ≡ before
 abbrev pub ReadsOnce : Status → ℕ → ℕ → Type 0
 ReadsOnce InputFault before now = now ≤ before + 1
 ReadsOnce status before now = now ≡ before
+
+-- a call that fails is kept in mind by what is left of the input then, and no other call changes that
+abbrev pub FailsAt : {T E : Type 0} → Result T E → Option (List ℕ) → Option (List ℕ) → Option (List ℕ) → Type 0
+FailsAt (Ok _) left before now = now ≡ before
+FailsAt (Err _) left before now = now ≡ left
+
+-- one read failed, and what was left then is left now: nothing was read behind it
+pub record FailsLast (before now : ℕ) (left failed_at : Option (List ℕ)) : Type 0 where
+  pub rose : Rose before now
+  pub once : now ≤ before + 1
+  pub stops : left ≡ failed_at
+
+-- by how the reading of the input ended: no read failed, or the last one
+abbrev pub EndsReading : Status → ℕ → ℕ → Option (List ℕ) → Option (List ℕ) → Type 0
+EndsReading InputFault before now left failed_at = FailsLast before now left failed_at
+EndsReading status before now left failed_at = now ≡ before

@@ -8,7 +8,11 @@ use Rattle.cdb_files.specs.Disk as disk
 use Rattle.cdb_files.specs.Disk.{IsImage, Allows}
 use Rattle.cdb_model.specs.Begun.{acknowledged}
 use Rattle.cdb_model.specs.Images.{Base}
+use Rattle.cdb_model.specs.Stores.{any_store}
+use Rattle.cdb_model.specs.Transitions.{StateIn, IsFreshIn}
+use Rattle.cdb_front.specs.Beginning.{BeginsAsRead}
 use Rattle.cdb_front.specs.EntryStore.{IsKnown}
+use Rattle.cdb_front.specs.Failures.{EndsReading}
 use Rattle.cdb_front.specs.RunOutcome.{Outcome}
 use Rattle.cdb_front.specs.declared.exit_status.Status.{Status}
 
@@ -27,6 +31,8 @@ pub record Devices : Type 1 where
   pub files : H → FileMap
   pub shelf_faults : H → ℕ
   pub left : I → Option (List ℕ)
+  pub failed_at : I → Option (List ℕ)
+  pub input_faults : I → ℕ
   pub written : O → Option (List ℕ)
 
 -- one run of the program: its devices before and after, how many steps follow a line, and its status
@@ -46,19 +52,26 @@ pub record Life (v : Devices) : Type 0 where
 abbrev pub Knows : (v : Devices) → Life v → Option Base → Type 0
 Knows v life from = IsKnown v.disk_tells from (v.clock life.old) (v.state life.old)
 
--- how the run went, from this store
-abbrev pub Goes : (v : Devices) → Life v → Option Base → Type 0
-Goes v life from = Outcome v.shelf_tells
-    (record {
-      files = v.files life.shelf;
-      shelf = v.shelf_faults life.shelf;
-      disk = v.disk_faults life.old;
-      written = v.written life.output;
-      from = from;
-      most = life.most;
-    })
-    (v.shelf_faults life.shelf') (v.disk_faults life.new) (v.left life.input) (v.left life.input')
-    (v.written life.output') (v.since life.new (v.clock life.old)) (v.state life.new) life.status
+-- how the run went, from this store, and, whatever the disk held, from a state in which nothing is pending, going or
+-- open
+pub record Goes (v : Devices) (life : Life v) (from : Option Base) : Type 0 where
+  pub start : StateIn any_store
+  pub fresh : IsFreshIn any_store start
+  pub outcome : Outcome v.shelf_tells
+      (record {
+        files = v.files life.shelf;
+        shelf = v.shelf_faults life.shelf;
+        disk = v.disk_faults life.old;
+        written = v.written life.output;
+        from = from;
+        start = start;
+        most = life.most;
+      })
+      (v.shelf_faults life.shelf') (v.disk_faults life.new) (v.left life.input) (v.left life.input')
+      (v.written life.output') (v.since life.new (v.clock life.old)) (v.state life.new) life.status
+  pub begins : BeginsAsRead v.disk_tells (v.state life.old).present start outcome.status
+  pub reads : EndsReading outcome.status (v.input_faults life.input) (v.input_faults life.input') (v.left life.input')
+      (v.failed_at life.input')
 
 -- the run is as the program promises
 abbrev pub Meets : (v : Devices) → Life v → Type 0
@@ -88,7 +101,8 @@ whole_for v list life = record { list = list; early = []; moment = v.clock life.
 abbrev pub acked : (v : Devices) (life : Life v) (m : FileMap) (opened : List Publication) → StopLeaves v life m
     → Goes v life (Some (whole_for v opened life)) → List Publication
 acked v life m opened (amid since) goes = []
-acked v life m opened (at_end image) goes = acknowledged goes.run.begun goes.transcript.answers goes.transcript.wrote
+acked v life m opened (at_end image) goes =
+    acknowledged goes.outcome.run.begun goes.outcome.transcript.answers goes.outcome.transcript.wrote
 
 -- a run opened a list, and a stop left it followed by the first of the publications begun, with all that are
 -- acknowledged
@@ -97,7 +111,7 @@ pub record LeavesAcknowledged (v : Devices) (life : Life v) (m : FileMap) (stop 
   pub goes : Goes v life (Some (whole_for v opened life))
   pub first : List Publication
   pub later : List Publication
-  pub joined : goes.run.begun ≡ first ++ later
+  pub joined : goes.outcome.run.begun ≡ first ++ later
   pub more : List Publication
   pub holds : first ≡ acked v life m opened stop goes ++ more
   pub now_is : now ≡ opened ++ first
@@ -150,11 +164,14 @@ abbrev pub Headline : Devices → Type 0
 Headline v = v.disk_tells → (list : List Publication) (last : Life v) (earlier : List (Life v))
     (follow : FollowStops v list last earlier) → AllMeet v last earlier → KeepsPublications v list last earlier follow
 
-abbrev pub HeadlineOf : {D H I O : Type 0} → Type 0 → (D → disk.State) → (D → ℕ) → (D → ℕ → FileMap → Type 0) → (D → ℕ)
-    → Type 0 → (H → FileMap) → (H → ℕ) → (I → Option (List ℕ)) → (O → Option (List ℕ)) → Type 0
-HeadlineOf {D = D} {H = H} {I = I} {O = O} disk_tells state clock since disk_faults shelf_tells files shelf_faults
-    left written =
-    Headline (record {
+-- ---- by what is seen of each device
+
+abbrev pub devices_of : {D H I O : Type 0} → Type 0 → (D → disk.State) → (D → ℕ) → (D → ℕ → FileMap → Type 0) → (D → ℕ)
+    → Type 0 → (H → FileMap) → (H → ℕ) → (I → Option (List ℕ)) → (I → Option (List ℕ)) → (I → ℕ)
+    → (O → Option (List ℕ)) → Devices
+devices_of {D = D} {H = H} {I = I} {O = O} disk_tells state clock since disk_faults shelf_tells files shelf_faults left
+    failed_at input_faults written =
+    record {
       D = D;
       H = H;
       I = I;
@@ -168,40 +185,35 @@ HeadlineOf {D = D} {H = H} {I = I} {O = O} disk_tells state clock since disk_fau
       files = files;
       shelf_faults = shelf_faults;
       left = left;
+      failed_at = failed_at;
+      input_faults = input_faults;
       written = written;
-    })
+    }
+
+abbrev pub life_of : (v : Devices) → v.D → v.D → v.H → v.H → v.I → v.I → v.O → v.O → ℕ → Status → Life v
+life_of v old new shelf shelf' input input' output output' most status = record {
+  old = old;
+  new = new;
+  shelf = shelf;
+  shelf' = shelf';
+  input = input;
+  input' = input';
+  output = output;
+  output' = output';
+  most = most;
+  status = status;
+}
 
 -- the run is as the program promises, by its devices
 abbrev pub MeetsOf : {D H I O : Type 0} → Type 0 → (D → disk.State) → (D → ℕ) → (D → ℕ → FileMap → Type 0) → (D → ℕ)
-    → Type 0 → (H → FileMap) → (H → ℕ) → (I → Option (List ℕ)) → (O → Option (List ℕ)) → D → D → H → H → I → I → O → O
-    → ℕ → Status → Type 0
-MeetsOf {D = D} {H = H} {I = I} {O = O} disk_tells state clock since disk_faults shelf_tells files shelf_faults left
-    written old new shelf shelf' input input' output output' most status =
-    Meets (record {
-      D = D;
-      H = H;
-      I = I;
-      O = O;
-      disk_tells = disk_tells;
-      state = state;
-      clock = clock;
-      since = since;
-      disk_faults = disk_faults;
-      shelf_tells = shelf_tells;
-      files = files;
-      shelf_faults = shelf_faults;
-      left = left;
-      written = written;
-    })
-    (record {
-      old = old;
-      new = new;
-      shelf = shelf;
-      shelf' = shelf';
-      input = input;
-      input' = input';
-      output = output;
-      output' = output';
-      most = most;
-      status = status;
-    })
+    → Type 0 → (H → FileMap) → (H → ℕ) → (I → Option (List ℕ)) → (I → Option (List ℕ)) → (I → ℕ)
+    → (O → Option (List ℕ)) → D → D → H → H → I → I → O → O → ℕ → Status → Type 0
+MeetsOf disk_tells state clock since disk_faults shelf_tells files shelf_faults left failed_at input_faults written old
+    new shelf shelf' input input' output output' most status =
+    Meets
+    (devices_of disk_tells state clock since disk_faults shelf_tells files shelf_faults left failed_at input_faults
+    written)
+    (life_of
+    (devices_of disk_tells state clock since disk_faults shelf_tells files shelf_faults left failed_at input_faults
+    written)
+    old new shelf shelf' input input' output output' most status)

@@ -10,6 +10,7 @@ pub mod StatusCodes
 pub mod RunProgress
 pub mod RunOutcome
 pub mod Failures
+pub mod Beginning
 pub mod Headline
 pub mod Completeness
 pub mod Checking

@@ -9,9 +9,10 @@ use Rattle.cdb_model.specs.Commands.{line_command}
 use Rattle.cdb_model.specs.Lines.{Cut, HaveNoFeed, HaveNoQuit}
 use Rattle.cdb_model.specs.Publications.{Publication}
 use Rattle.cdb_model.specs.Stands.{Stands}
-use Rattle.cdb_model.specs.Stores.{known, any}
+use Rattle.cdb_model.specs.Stores.{Kind, Which, known, any, store_kind, known_store, any_store}
 use Rattle.cdb_model.specs.KnownStore.{KnownState, start_at}
 use Rattle.cdb_model.specs.Events as machine
+use Rattle.cdb_model.specs.Transitions.{StateIn}
 use Rattle.cdb_model.specs.Runs.{Item, Run, items_of}
 use Rattle.cdb_model.specs.AnswerTexts.{text_of_answer, texts_of, shelf_fault, disk_fault}
 use Rattle.cdb_model.specs.Begun.{HasBegun, acknowledged}
@@ -25,7 +26,7 @@ use Rattle.cdb_chain.specs.declared.open_error.OpenError.TheVariants as refused
 use Rattle.cdb_engine.specs.Checks.{AreOpened}
 use Rattle.cdb_engine.specs.Store.{IsNoStore}
 use Rattle.cdb_front.specs.Devices.{WritesPart}
-use Rattle.cdb_front.specs.RunProgress.{Sight, RunStart, Holds, Runs, Ordered, ReachesLast}
+use Rattle.cdb_front.specs.RunProgress.{Sight, RunStart, Holds, Runs, Ordered, EndsByAnswer, ReachesLast, first_state}
 use Rattle.cdb_front.specs.StatusCodes.{status_line}
 use Rattle.cdb_front.specs.Stepping.{Counts}
 use Rattle.cdb_front.specs.declared.exit_status.Status.{Status}
@@ -115,12 +116,26 @@ pub record Transcript (e : RunStart) (shelf disk : ℕ) (left left' written : Op
   pub writes : WritesAnswers status answers wrote
   pub finishes : EndsScript status left' read unread rest
 
+-- where an answer wasn't written whole, the run ended with the item that gave it: no further step was made
+abbrev pub EndsUnwritten : Status → (k : Kind) → (Text → Content → Type 0) → StateIn k → List Item → List machine.Answer
+    → StateIn k → Type 0
+EndsUnwritten OutputFault k Has old items answers new = EndsByAnswer k Has old items answers new
+EndsUnwritten status k Has old items answers new = Unit {0}
+
+-- states of now to which a run came so
+abbrev pub Unwritten : Type 0 → RunStart → Status → List Item → List machine.Answer → Sight → (w : Which)
+    → StateIn (store_kind w) → Type 0
+Unwritten tells e status items answers Now w s =
+    Now w s × EndsUnwritten status (store_kind w) (Holds tells e.files) (first_state e w) items answers s
+
 -- the script ended: a run, where the store is known, and one whatever the disk holds, each to a state of now
 pub record StopsScript (tells : Type 0) (e : RunStart) (shelf disk : ℕ) (left left' written : Option (List ℕ)) (Now : Sight)
     (status : Status) : Type 0 where
   pub transcript : Transcript e shelf disk left left' written status
-  pub run : Runs (Holds tells e.files) e.from transcript.items transcript.answers (Now known)
-  pub order : Ordered (Holds tells e.files) transcript.items transcript.answers (Now any)
+  pub run : Runs (Holds tells e.files) e.from transcript.items transcript.answers
+      (Unwritten tells e status transcript.items transcript.answers Now known)
+  pub order : Ordered (Holds tells e.files) e.start transcript.items transcript.answers
+      (Unwritten tells e status transcript.items transcript.answers Now any)
 
 -- ---- the line of the status
 
@@ -193,6 +208,7 @@ pub record Ended (Has : Text → Content → Type 0) (base : Base) (status : Sta
     (answers : List machine.Answer) (wrote : Text) (Since : FileMap → Type 0) (d : disk.State) : Type 0 where
   pub state : KnownState
   pub run : Run Has (start_at base.list) items answers state
+  pub last : EndsUnwritten status known_store Has (start_at base.list) items answers state
   pub begun : List Publication
   pub has_begun : HasBegun base.list state begun
   pub since : (m : FileMap) → Since m → StandsSince base begun m
@@ -230,7 +246,8 @@ pub record Outcome (tells : Type 0) (e : RunStart) (shelf faults : ℕ) (left le
   pub written : Option (List ℕ)
   pub transcript : Transcript e shelf faults left left' written status
   pub run : EndsFrom (Holds tells e.files) e.from status transcript.items transcript.answers transcript.wrote Since d
-  pub order : Ordered (Holds tells e.files) transcript.items transcript.answers (λ s. Unit {0})
+  pub order : Ordered (Holds tells e.files) e.start transcript.items transcript.answers
+      (EndsUnwritten status any_store (Holds tells e.files) e.start transcript.items transcript.answers)
   pub ends : EndsWith status written written' result
 
 -- ---- words that are refused

@@ -7,10 +7,10 @@ use Rattle.cdb_model.specs.Commands as said
 use Rattle.cdb_model.specs.Commands.{line_command}
 use Rattle.cdb_model.specs.Lines.{Cut, HaveNoQuit}
 use Rattle.cdb_model.specs.Events as machine
-use Rattle.cdb_model.specs.Stores.{Which, known, any, store_kind, any_store}
-use Rattle.cdb_model.specs.Transitions.{StateIn, IsFreshIn}
+use Rattle.cdb_model.specs.Stores.{Kind, Which, known, any, store_kind, any_store}
+use Rattle.cdb_model.specs.Transitions.{StateIn}
 use Rattle.cdb_model.specs.KnownStore.{KnownState, start_at}
-use Rattle.cdb_model.specs.Runs.{Item, Run, RunIn, items_of}
+use Rattle.cdb_model.specs.Runs.{Item, Run, RunIn, PassesIn, items_of}
 use Rattle.cdb_model.specs.AnswerTexts.{text_of_answer, texts_of, shelf_fault, disk_fault}
 use Rattle.cdb_model.specs.Images.{Base}
 use Rattle.cdb_engine.specs.Tracks.{Leads}
@@ -24,19 +24,26 @@ abbrev pub Sight : Type 1
 Sight = (w : Which) → StateIn (store_kind w) → Type 0
 
 -- what a run began with: the files of the shelf, the counts of failures of shelf and disk, what was written before, the
--- store on the disk, where that is known, and how many steps follow a line
+-- store on the disk, where that is known, the state that the machine had, whatever the disk holds, and how many steps
+-- follow a line
 pub record RunStart : Type 0 where
   pub files : FileMap
   pub shelf : ℕ
   pub disk : ℕ
   pub written : Option (List ℕ)
   pub from : Option Base
+  pub start : StateIn any_store
   pub most : ℕ
 
 -- the store, or an empty one
 abbrev pub base_of : Option Base → Base
 base_of None = record { list = []; early = []; moment = 0 }
 base_of (Some base) = base
+
+-- the state that the machine began with: that of the list of the store, or the one whatever the disk holds
+abbrev pub first_state : RunStart → (w : Which) → StateIn (store_kind w)
+first_state e known = start_at (base_of e.from).list
+first_state e any = e.start
 
 -- the shelf has this content at a path, where it tells
 abbrev pub Holds : Type 0 → FileMap → Text → Content → Type 0
@@ -47,30 +54,50 @@ abbrev pub Runs : (Text → Content → Type 0) → Option Base → List Item �
 Runs Has None items answers Now = Unit {0}
 Runs Has (Some base) items answers Now = Leads (Run Has (start_at base.list) items answers) Now
 
--- whatever the disk holds, the answers are those of a run from some beginning over these items, to a state of now
-pub record Ordered (Has : Text → Content → Type 0) (items : List Item) (answers : List machine.Answer)
-    (Now : StateIn any_store → Type 0) : Type 0 where
-  pub start : StateIn any_store
-  pub fresh : IsFreshIn any_store start
-  pub leads : Leads (RunIn any_store Has start items answers) Now
+-- whatever the disk holds, the answers are those of a run from its beginning over these items, to a state of now
+abbrev pub Ordered : (Text → Content → Type 0) → StateIn any_store → List Item → List machine.Answer
+    → (StateIn any_store → Type 0) → Type 0
+Ordered Has start items answers Now = Leads (RunIn any_store Has start items answers) Now
+
+-- a run over items came to a state by the last of them, which gave the last answer alone; the items before it gave the
+-- answers before that
+pub record EndsByAnswer (k : Kind) (Has : Text → Content → Type 0) (old : StateIn k) (items : List Item)
+    (answers : List machine.Answer) (new : StateIn k) : Type 0 where
+  pub before : List Item
+  pub item : Item
+  pub items_are : items ≡ before ++ item ∷ []
+  pub whole : List machine.Answer
+  pub answer : machine.Answer
+  pub answers_are : answers ≡ whole ++ answer ∷ []
+  pub mid : StateIn k
+  pub run : RunIn k Has old before whole mid
+  pub passes : PassesIn k Has mid item (answer ∷ []) new
+
+-- states of now to which a run came so
+abbrev pub ByAnswer : Type 0 → RunStart → List Item → List machine.Answer → Sight → (w : Which)
+    → StateIn (store_kind w) → Type 0
+ByAnswer tells e items answers Now w s =
+    Now w s × EndsByAnswer (store_kind w) (Holds tells e.files) (first_state e w) items answers s
 
 -- items were gone through and their answers written
 pub record Told (tells : Type 0) (e : RunStart) (items : List Item) (written : Option (List ℕ)) (shelf disk : ℕ)
     (Now : Sight) : Type 0 where
   pub answers : List machine.Answer
   pub run : Runs (Holds tells e.files) e.from items answers (Now known)
-  pub order : Ordered (Holds tells e.files) items answers (Now any)
+  pub order : Ordered (Holds tells e.files) e.start items answers (Now any)
   pub shelf_counted : Counts shelf_fault e.shelf shelf answers
   pub disk_counted : Counts disk_fault e.disk disk answers
   pub appended : Appends e.written written (texts_of answers)
 
--- the same, but for a part of the last answer
+-- the same, but for a part of the last answer, which the last item gave
 pub record Torn (tells : Type 0) (e : RunStart) (items : List Item) (written : Option (List ℕ)) (shelf disk : ℕ)
     (Now : Sight) : Type 0 where
   pub whole : List machine.Answer
   pub answer : machine.Answer
-  pub run : Runs (Holds tells e.files) e.from items (whole ++ answer ∷ []) (Now known)
-  pub order : Ordered (Holds tells e.files) items (whole ++ answer ∷ []) (Now any)
+  pub run : Runs (Holds tells e.files) e.from items (whole ++ answer ∷ [])
+      (ByAnswer tells e items (whole ++ answer ∷ []) Now known)
+  pub order : Ordered (Holds tells e.files) e.start items (whole ++ answer ∷ [])
+      (ByAnswer tells e items (whole ++ answer ∷ []) Now any)
   pub shelf_counted : Counts shelf_fault e.shelf shelf (whole ++ answer ∷ [])
   pub disk_counted : Counts disk_fault e.disk disk (whole ++ answer ∷ [])
   pub part : Text

@@ -1,5 +1,5 @@
 -- The tiles that a run over a store serves, by the publications that their sessions answer from.
-use Rattle.std.specs.Prelude.{◌≡◌, ℕ, List, [], ◌∷◌, Option, Some}
+use Rattle.std.specs.Prelude.{◌≡◌, ℕ, List, [], ◌∷◌, Some}
 use Rattle.cdb_grid.specs.declared.tile.Tile.{Tile}
 use Rattle.cdb_source.specs.Reached.{Reached}
 use Rattle.cdb_source.specs.declared.source.Source.{Source}
@@ -10,7 +10,7 @@ use Rattle.cdb_model.specs.Events.{Answer}
 use Rattle.cdb_model.specs.Grammar as grammar
 use Rattle.cdb_model.specs.Images.{Base}
 use Rattle.cdb_model.specs.KnownStore.{KnownState, start_at}
-use Rattle.cdb_model.specs.Maps.{Content, FileMap}
+use Rattle.cdb_model.specs.Maps.{Content}
 use Rattle.cdb_model.specs.Names.{name}
 use Rattle.cdb_model.specs.Publications.{sources_up_to, heads_of}
 use Rattle.cdb_model.specs.Runs.{Item, Run, line, late}
@@ -18,7 +18,6 @@ use Rattle.cdb_model.specs.Sessions.{session_of}
 use Rattle.cdb_model.specs.Text.{Text}
 use Rattle.cdb_model.specs.TileFile.{tile_bytes}
 use Rattle.cdb_model.specs.declared.session.Session.{Session}
-use Rattle.cdb_files.specs.Disk as disk
 use Rattle.cdb_front.specs.Headline.{Devices, Life, Goes}
 use Rattle.cdb_front.specs.RunProgress.{Holds}
 
@@ -51,26 +50,5 @@ EachServed Has old (late most ∷ items) answers new run = EachServed Has run.mi
 -- each tile that a run over a store serves
 abbrev pub ServesTiles : Devices → Type 0
 ServesTiles v = (life : Life v) (base : Base) (goes : Goes v life (Some base))
-    → EachServed (Holds v.shelf_tells (v.files life.shelf)) (start_at base.list) goes.transcript.items
-    goes.transcript.answers goes.run.state goes.run.run
-
-abbrev pub ServesTilesOf : {D H I O : Type 0} → Type 0 → (D → disk.State) → (D → ℕ) → (D → ℕ → FileMap → Type 0)
-    → (D → ℕ) → Type 0 → (H → FileMap) → (H → ℕ) → (I → Option (List ℕ)) → (O → Option (List ℕ)) → Type 0
-ServesTilesOf {D = D} {H = H} {I = I} {O = O} disk_tells state clock since disk_faults shelf_tells files shelf_faults left
-    written =
-    ServesTiles (record {
-      D = D;
-      H = H;
-      I = I;
-      O = O;
-      disk_tells = disk_tells;
-      state = state;
-      clock = clock;
-      since = since;
-      disk_faults = disk_faults;
-      shelf_tells = shelf_tells;
-      files = files;
-      shelf_faults = shelf_faults;
-      left = left;
-      written = written;
-    })
+    → EachServed (Holds v.shelf_tells (v.files life.shelf)) (start_at base.list)
+    goes.outcome.transcript.items goes.outcome.transcript.answers goes.outcome.run.state goes.outcome.run.run

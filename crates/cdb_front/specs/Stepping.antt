@@ -2,8 +2,6 @@
 use Rattle.std.specs.Prelude.{ℕ, ◌+◌, ◌-◌, ◌^◌, ◌<◌, ◌≤◌, List}
 use Rattle.cdb_model.specs.AnswerTexts.{tally}
 use Rattle.cdb_model.specs.Events as machine
-use Rattle.cdb_publish.specs.declared.errors.Progress.TheVariants as progress
-use Rattle.cdb_engine.specs.declared.errors.AdvanceError.TheVariants as advance
 
 -- no more answers than the count of failures rose by, where that isn't at its last value
 abbrev pub Counts : (machine.Answer → ℕ) → ℕ → ℕ → List machine.Answer → Type 0

@@ -1,8 +1,9 @@
-ghost use Rattle.std.specs.Prelude.{◌≡◌, ℕ, ◌+◌, ◌-◌, ◌^◌, ◌<◌, ◌≤◌, ◌↔◌, min, List, drop, length, Some, IsErr, IfOk, OnOk, OnErr, Contains};
+ghost use Rattle.std.specs.Prelude.{◌≡◌, ℕ, ◌+◌, ◌-◌, ◌^◌, ◌<◌, ◌≤◌, ◌↔◌, min, List, drop, length, None, Some, IsErr, IfOk, OnOk, OnErr, Contains};
 ghost use Rattle.std.specs.Io.KnownBytes.{ReadConsumes};
+ghost use Rattle.std.specs.Option.{option_map};
 ghost use Rattle.cdb_model.specs.Causes.{HasCause};
 ghost use Rattle.cdb_front.specs.Devices.{Supply};
-ghost use Rattle.cdb_front.specs.Failures.{FailsOnce};
+ghost use Rattle.cdb_front.specs.Failures.{FailsOnce, FailsAt};
 
 use crate::input::Input;
 use cdb_files::Failed;
@@ -17,6 +18,7 @@ pub struct MemInput {
     fails: Vec<u64>,
     calls: u64,
     faults: u64,
+    failed_at: Option<usize>,
 }
 
 impl Model for MemInput {
@@ -28,6 +30,7 @@ impl Model for MemInput {
       fails = m.fails.items;
       calls = m.calls;
       faults = m.faults;
+      failed_at = option_map (λ at. drop at m.bytes.items) m.failed_at;
     } };
 
     ghost invariant = { λ m. (m.at ≤ length m.bytes.items) × (0 < m.piece) };
@@ -38,7 +41,14 @@ impl MemInput {
     /// whose numbers are listed.
     pub fn new(bytes: Vec<u8>, piece: usize, fails: Vec<u64>) -> MemInput
         requires { 0 < piece }
-        ensures { result ≡ record { left = bytes.items; most = piece; fails = fails.items; calls = 0; faults = 0 } }
+        ensures { result ≡ record {
+          left = bytes.items;
+          most = piece;
+          fails = fails.items;
+          calls = 0;
+          faults = 0;
+          failed_at = None;
+        } }
     {
         MemInput {
             bytes,
@@ -47,12 +57,15 @@ impl MemInput {
             fails,
             calls: 0,
             faults: 0,
+            failed_at: None,
         }
     }
 }
 
 impl Input for MemInput {
     ghost left = { λ m. Some m.left };
+
+    ghost failed_at = { λ m. m.failed_at };
 
     ghost fault_count = { λ m. m.faults };
 
@@ -61,6 +74,7 @@ impl Input for MemInput {
         ensures bytes { ReadConsumes (Some self.old.left) (Some self.new.left) result into.new }
         ensures cause { HasCause self.old.faults self.new.faults result }
         ensures once { FailsOnce result self.old.faults self.new.faults }
+        ensures place { FailsAt result (Some self.new.left) self.old.failed_at self.new.failed_at }
 
         // It fails at the listed calls alone, and else gives as much as it may.
         ensures listed { IsErr result ↔ Contains self.old.fails self.new.calls }
@@ -73,6 +87,7 @@ impl Input for MemInput {
         self.calls = self.calls.saturating_add(1);
         if self.fails.contains(&self.calls) {
             self.faults = self.faults.saturating_add(1);
+            self.failed_at = Some(self.at);
             return Err(Failed);
         }
         let left = self.bytes.as_slice().split_at(self.at).1;

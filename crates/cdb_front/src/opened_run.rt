@@ -39,7 +39,8 @@ pub fn run_over<D: Disk, H: Shelf, I: Input, O: Output>(
     output: &mut O,
 ) -> Status
     ensures outcome { MeetsOf D.tells D.state D.clock D.since D.fault_count H.tells H.files H.fault_count I.left
-        O.written disk.old disk.new shelf.old shelf.new input.old input.new output.old output.new most result }
+        I.failed_at I.fault_count O.written disk.old disk.new shelf.old shelf.new input.old input.new output.old
+        output.new most result }
     ensures in_time { IfSome (I.left input.old) (λ bytes. length bytes < 2 ^ 32 → result ≢ Status.TooLong) }
     ensures quits { IfSome (I.left input.old) (λ bytes. QuitsInTime bytes → result ≢ Status.TooLong) }
     ensures input_failed { result ≡ Status.InputFault → Rose (I.fault_count input.old) (I.fault_count input.new) }
@@ -47,6 +48,7 @@ pub fn run_over<D: Disk, H: Shelf, I: Input, O: Output>(
     ensures store { SaysStore D.tells (D.state disk.old).present (D.state disk.new).present result }
     ensures no_read_fails { result ≢ Status.InputFault → result ≢ Status.OutputFault
         → I.fault_count input.new ≡ I.fault_count input.old }
+    ensures input_stops { result ≡ Status.InputFault → I.left input.new ≡ I.failed_at input.new }
     ensures one_read_fails { I.fault_count input.new ≤ I.fault_count input.old + 1 }
     ensures one_write_fails { WritesOnce result (O.fault_count output.old) (O.fault_count output.new) }
     ensures output_failed { result ≡ Status.OutputFault → Rose (O.fault_count output.old) (O.fault_count output.new) }

@@ -1,10 +1,10 @@
 //! What the runs of the program promise together. Each function does nothing; its contract is the law.
 ghost use Rattle.cdb_front.specs.Checking.{CompletesCheckOf};
-ghost use Rattle.cdb_front.specs.Completeness.{CompletesOf};
-ghost use Rattle.cdb_front.specs.Continued.{ContinuesOf};
+ghost use Rattle.cdb_front.specs.Completeness.{RunsAreComplete};
+ghost use Rattle.cdb_front.specs.Continued.{Continues};
 ghost use Rattle.cdb_front.specs.Generating.{CompletesFillOf};
-ghost use Rattle.cdb_front.specs.Headline.{HeadlineOf};
-ghost use Rattle.cdb_front.specs.Served.{ServesTilesOf};
+ghost use Rattle.cdb_front.specs.Headline.{Headline, devices_of};
+ghost use Rattle.cdb_front.specs.Served.{ServesTiles};
 
 use crate::input::Input;
 use crate::output::Output;
@@ -13,7 +13,8 @@ use cdb_files::{Disk, Shelf};
 /// Any number of stops and reopenings: what the last run opens is the first store followed, run by
 /// run, by the first of the publications begun, with every acknowledged one.
 pub fn headline<D: Disk, H: Shelf, I: Input, O: Output>(disk: &D, shelf: &H, input: &I, output: &O)
-    ensures { HeadlineOf D.tells D.state D.clock D.since D.fault_count H.tells H.files H.fault_count I.left O.written }
+    ensures { Headline (devices_of D.tells D.state D.clock D.since D.fault_count H.tells H.files H.fault_count I.left
+        I.failed_at I.fault_count O.written) }
 {}
 
 /// Where no device fails, a run over a store is done, or wants memory, or its input is too long; each
@@ -24,8 +25,8 @@ pub fn completeness<D: Disk, H: Shelf, I: Input, O: Output>(
     input: &I,
     output: &O,
 )
-    ensures { CompletesOf D.tells D.state D.clock D.since D.fault_count H.tells H.files H.fault_count I.left
-        I.fault_count O.written O.fault_count }
+    ensures { RunsAreComplete (devices_of D.tells D.state D.clock D.since D.fault_count H.tells H.files H.fault_count
+        I.left I.failed_at I.fault_count O.written) O.fault_count }
 {}
 
 /// Where no device fails, a run of mode check over a store is done, or wants memory.
@@ -41,7 +42,8 @@ pub fn fill_completeness<D: Disk, O: Output>(disk: &D, output: &O)
 /// Any number of runs, each over what a stop of the one before left or, where the disk is clear, on
 /// that very disk: each finds a store again, whose lists have every acknowledged publication.
 pub fn continues<D: Disk, H: Shelf, I: Input, O: Output>(disk: &D, shelf: &H, input: &I, output: &O)
-    ensures { ContinuesOf D.tells D.state D.clock D.since D.fault_count H.tells H.files H.fault_count I.left O.written }
+    ensures { Continues (devices_of D.tells D.state D.clock D.since D.fault_count H.tells H.files H.fault_count I.left
+        I.failed_at I.fault_count O.written) }
 {}
 
 /// Each tile that a run over a store serves has the bytes of a build from nothing of the publications
@@ -52,5 +54,6 @@ pub fn serves_tiles<D: Disk, H: Shelf, I: Input, O: Output>(
     input: &I,
     output: &O,
 )
-    ensures { ServesTilesOf D.tells D.state D.clock D.since D.fault_count H.tells H.files H.fault_count I.left O.written }
+    ensures { ServesTiles (devices_of D.tells D.state D.clock D.since D.fault_count H.tells H.files H.fault_count I.left
+        I.failed_at I.fault_count O.written) }
 {}

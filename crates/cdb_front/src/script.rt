@@ -80,6 +80,7 @@ fn take_turn<D: Disk, H: Shelf, E: StoreCalls<D>, I: Input, O: Output>(
     ensures input_later { I.fault_count input.old ≤ I.fault_count input.new }
     ensures input_failed { result ≡ Turned.Stopped Status.InputFault
         → Rose (I.fault_count input.old) (I.fault_count input.new) }
+    ensures input_stops { result ≡ Turned.Stopped Status.InputFault → I.left input.new ≡ I.failed_at input.new }
     ensures opened { StopsOpened result }
     ensures reads { ReadsInTurn result (I.fault_count input.old) (I.fault_count input.new) }
     ensures writes { WritesInTurn result (O.fault_count output.old) (O.fault_count output.new) }
@@ -131,6 +132,7 @@ pub fn run_script<D: Disk, H: Shelf, E: StoreCalls<D>, I: Input, O: Output>(
         (O.written output.new) (E.stays engine.new disk.new (base_of e.from)) result }
     ensures input_later { I.fault_count input.old ≤ I.fault_count input.new }
     ensures input_failed { result ≡ Status.InputFault → Rose (I.fault_count input.old) (I.fault_count input.new) }
+    ensures input_stops { result ≡ Status.InputFault → I.left input.new ≡ I.failed_at input.new }
     ensures opened { WasOpened result }
     ensures reads { ReadsOnce result (I.fault_count input.old) (I.fault_count input.new) }
     ensures writes { WritesOnce result (O.fault_count output.old) (O.fault_count output.new) }

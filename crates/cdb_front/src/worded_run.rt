@@ -51,9 +51,9 @@ pub fn cdb_run<D: Disk, H: Shelf, I: Input, O: Output>(
     output: &mut O,
 ) -> Status
     ensures outcome { (options : given) → options_of (map (λ s. s.now) words.now) ≡ Some options → options.mode ≡ Run
-        → MeetsOf D.tells D.state D.clock D.since D.fault_count H.tells H.files H.fault_count I.left O.written
-        disk.old disk.new shelf.old shelf.new input.old input.new output.old output.new options.background
-        result }
+        → MeetsOf D.tells D.state D.clock D.since D.fault_count H.tells H.files H.fault_count I.left
+        I.failed_at I.fault_count O.written disk.old disk.new shelf.old shelf.new input.old input.new output.old
+        output.new options.background result }
     ensures checks { (options : given) → options_of (map (λ s. s.now) words.now) ≡ Some options → options.mode ≡ Check
         → Checks D.tells D.state D.clock D.since disk.old disk.new (O.written output.old) (O.written output.new)
         result }
@@ -72,6 +72,7 @@ pub fn cdb_run<D: Disk, H: Shelf, I: Input, O: Output>(
     ensures store { SaysStore D.tells (D.state disk.old).present (D.state disk.new).present result }
     ensures no_read_fails { result ≢ Status.InputFault → result ≢ Status.OutputFault
         → I.fault_count input.new ≡ I.fault_count input.old }
+    ensures input_stops { result ≡ Status.InputFault → I.left input.new ≡ I.failed_at input.new }
     ensures one_read_fails { I.fault_count input.new ≤ I.fault_count input.old + 1 }
     ensures one_write_fails { WritesOnce result (O.fault_count output.old) (O.fault_count output.new) }
     ensures output_failed { result ≡ Status.OutputFault → Rose (O.fault_count output.old) (O.fault_count output.new) }

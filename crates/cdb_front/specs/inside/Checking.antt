@@ -1,5 +1,4 @@
 -- Inside the crate: what a run of mode check answers and writes.
-use Rattle.cdb_files.specs.Disk as disk
 use Rattle.cdb_check.specs.declared.outcome.CheckError.{CheckError}
 use Rattle.cdb_check.specs.declared.outcome.CheckError.TheVariants as check
 use Rattle.cdb_front.specs.declared.exit_status.Status.{Status}

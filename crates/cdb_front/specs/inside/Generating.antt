@@ -1,5 +1,4 @@
 -- Inside the crate: what a run of mode generate leaves and writes.
-use Rattle.cdb_files.specs.Disk as disk
 use Rattle.cdb_engine.specs.declared.errors.PopulateError.{PopulateError}
 use Rattle.cdb_engine.specs.declared.errors.PopulateError.TheVariants as populate
 use Rattle.cdb_front.specs.declared.exit_status.Limit.TheVariants.{Entries, Versions}

@@ -1,9 +1,6 @@
 -- Inside the crate: what the program hears in a line.
-use Rattle.cdb_model.specs.Commands as said
 use Rattle.cdb_model.specs.declared.line.Line.{Line}
 use Rattle.cdb_model.specs.declared.line.Line.TheVariants as line
-use Rattle.cdb_front.specs.declared.heard.Asked.TheVariants as asked
-use Rattle.cdb_front.specs.declared.heard.Heard.TheVariants as heard
 use Rattle.cdb_front.specs.Hearing.{IsEvent}
 
 -- nor asks for steps

@@ -3,7 +3,6 @@ use Rattle.std.specs.Prelude.{◌≡◌, ℕ, List, [], ◌∷◌, ◌++◌, Opt
 use Rattle.std.specs.Io.KnownBytes.{Appends}
 use Rattle.cdb_model.specs.Text.{Text}
 use Rattle.cdb_model.specs.Maps.{FileMap}
-use Rattle.cdb_model.specs.Commands as said
 use Rattle.cdb_model.specs.Events as machine
 use Rattle.cdb_model.specs.Stores.{Which, store_kind}
 use Rattle.cdb_model.specs.Transitions.{StateIn}

@@ -1,5 +1,5 @@
 -- Inside the crate: one step of the publication that is going: its results, as answers of the machine.
-use Rattle.std.specs.Prelude.{◌-◌, Option, None, Some, Result, Ok, Err}
+use Rattle.std.specs.Prelude.{Option, None, Some, Result, Ok, Err}
 use Rattle.cdb_model.specs.Events as machine
 use Rattle.cdb_publish.specs.declared.errors.Progress.{Progress}
 use Rattle.cdb_publish.specs.declared.errors.Progress.TheVariants as progress

@@ -2,49 +2,67 @@ use Rattle.std.proofs.Common.{None, refl}
 use Rattle.cdb_model.specs.Images.{Base}
 use Rattle.cdb_model.specs.KnownStore.{KnownState}
 use Rattle.cdb_model.specs.Stores.{known}
+use Rattle.cdb_engine.specs.Stays.{bare_of}
 use Rattle.cdb_front.specs.EngineStays.{StaysWith}
 use Rattle.cdb_front.specs.RunProgress.{RunStart, Holds, base_of}
-use Rattle.cdb_front.proofs.Exits.{ended, opens, told_begins, told_shut, closed, outcome, Shut}
+use Rattle.cdb_front.proofs.Exits.{ended, opens, told_begins, told_shut, closed, whole_outcome, nothing_yet, fresh_yet, Shut}
 use Rattle.cdb_front.proofs.InTime.{in_time, quits}
-use Rattle.cdb_front.proofs.RunEnds.{stops_closed, says_store, opened_says, opened_is_one, reads_whole, unopened_of_store, unopened_says}
+use Rattle.cdb_front.proofs.RunEnds.{stops_closed, begins_read, begins_shut, ends_reading, reads_none, says_store, opened_says, opened_is_one, reads_whole, unopened_of_store, unopened_says}
 use Rattle.cdb_front.proofs.Staying.{stays_opened, stays_bare, stays_followed}
 use Rattle.cdb_front.proofs.opened_run.run_over.Goals as goal
 
 pub returns-in-Ok-clause-outcome : goal.returns-in-Ok-clause-outcome
 returns-in-Ok-clause-outcome g c = λ from knows.
+    let start = bare_of c.in-Ok.engine in
     let e : RunStart = record {
       files = g.H.Shelf.files c.args.shelf.now;
       shelf = g.H.Shelf.fault_count c.args.shelf.now;
       disk = g.D.Disk.fault_count c.args.disk.now;
       written = g.O.Output.written c.args.output.now;
       from = from;
+      start = start;
       most = c.args.most;
     } in
     let First = λ (base : Base). StaysWith g.D.Disk.tells g.D.Disk.clock g.D.Disk.fault_count g.D.Disk.since
     g.D.Disk.state base c.open.new.disk c.in-Ok.engine in
     let Last = λ (base : Base). StaysWith g.D.Disk.tells g.D.Disk.clock g.D.Disk.fault_count g.D.Disk.since
     g.D.Disk.state base c.run_script-status.new.disk c.run_script-status.new.engine in
-    outcome c.run_script-status.result c.end.result
-    (g.D.Disk.since c.run_script-status.new.disk (g.D.Disk.clock c.args.disk.now))
-    (g.D.Disk.state c.run_script-status.new.disk)
-    (λ items answers wrote runs. ended (Holds g.H.Shelf.tells e.files) g.D.Disk.tells from c.run_script-status.result
-    items answers wrote (g.D.Disk.clock c.args.disk.now)
-    (g.D.Disk.since c.run_script-status.new.disk) (g.D.Disk.state c.args.disk.now)
-    (g.D.Disk.state c.run_script-status.new.disk) (λ (base : Base) (s : KnownState). Last base known s)
-    (λ base s stays. stays_followed g.D.Disk.tells g.D.Disk.clock g.D.Disk.fault_count g.D.Disk.since g.D.Disk.state
-    base c.run_script-status.new.disk c.run_script-status.new.engine s stays)
-    c.run_script-status.ensures.opened knows runs)
-    (c.run_script-status.ensures.stops e refl refl
-    (told_begins e (g.D.Disk.fault_count c.open.new.disk) (First (base_of from)) c.open.ensures.later
-    (opens g.D.Disk.tells (g.D.Disk.clock c.args.disk.now) (g.D.Disk.state c.args.disk.now) from
-    (λ (base : Base) (s : KnownState). First base known s) knows
-    (λ base has. stays_opened g.D.Disk.tells g.D.Disk.clock g.D.Disk.fault_count g.D.Disk.since g.D.Disk.state base
-    c.args.disk.now c.open.new.disk c.in-Ok.engine has
-    (c.in-Ok.ensures.begins has.told base.list base.early has.store)
-    (c.open.ensures.moments has.told base.list base.early has.store) (g.met.D.Disk.only_now c.args.disk.now)))
-    (stays_bare g.D.Disk.tells g.D.Disk.clock g.D.Disk.fault_count g.D.Disk.since g.D.Disk.state (base_of from)
-    c.open.new.disk c.in-Ok.engine c.in-Ok.ensures.fresh)))
-    c.end.ensures.ends
+    record {
+      start = start;
+      fresh = c.in-Ok.ensures.fresh;
+      outcome = whole_outcome c.run_script-status.result c.end.result
+          (g.D.Disk.since c.run_script-status.new.disk (g.D.Disk.clock c.args.disk.now))
+          (g.D.Disk.state c.run_script-status.new.disk)
+          (λ items answers wrote runs. ended (Holds g.H.Shelf.tells e.files) g.D.Disk.tells from
+          c.run_script-status.result items answers wrote (g.D.Disk.clock c.args.disk.now)
+          (g.D.Disk.since c.run_script-status.new.disk) (g.D.Disk.state c.args.disk.now)
+          (g.D.Disk.state c.run_script-status.new.disk) (λ (base : Base) (s : KnownState). Last base known s)
+          (λ base s stays. stays_followed g.D.Disk.tells g.D.Disk.clock g.D.Disk.fault_count g.D.Disk.since
+          g.D.Disk.state base c.run_script-status.new.disk c.run_script-status.new.engine s stays)
+          c.run_script-status.ensures.opened knows runs)
+          (c.run_script-status.ensures.stops e refl refl
+          (told_begins e (g.D.Disk.fault_count c.open.new.disk) (First (base_of from)) c.open.ensures.later
+          (opens g.D.Disk.tells (g.D.Disk.clock c.args.disk.now) (g.D.Disk.state c.args.disk.now) from
+          (λ (base : Base) (s : KnownState). First base known s) knows
+          (λ base has. stays_opened g.D.Disk.tells g.D.Disk.clock g.D.Disk.fault_count g.D.Disk.since g.D.Disk.state
+          base c.args.disk.now c.open.new.disk c.in-Ok.engine has
+          (c.in-Ok.ensures.begins has.told base.list base.early has.store)
+          (c.open.ensures.moments has.told base.list base.early has.store) (g.met.D.Disk.only_now c.args.disk.now)))
+          (stays_bare g.D.Disk.tells g.D.Disk.clock g.D.Disk.fault_count g.D.Disk.since g.D.Disk.state (base_of from)
+          c.open.new.disk c.in-Ok.engine)))
+          c.end.ensures.ends;
+      begins = begins_read c.run_script-status.result g.D.Disk.tells (g.D.Disk.state c.args.disk.now).present start
+          (λ told. record {
+            left = (g.D.Disk.state c.open.new.disk).present;
+            records = c.in-Ok.engine.chain.records;
+            opened = c.in-Ok.ensures.read told;
+            list_is = refl;
+          });
+      reads = ends_reading c.run_script-status.result (g.I.Input.fault_count c.args.input.now)
+          (g.I.Input.fault_count c.run_script-status.new.input) (g.I.Input.left c.run_script-status.new.input)
+          (g.I.Input.failed_at c.run_script-status.new.input) c.run_script-status.ensures.input_failed
+          c.run_script-status.ensures.input_stops c.run_script-status.ensures.reads;
+    }
 
 pub returns-in-Err-clause-outcome : goal.returns-in-Err-clause-outcome
 returns-in-Err-clause-outcome g c = λ from knows.
@@ -54,34 +72,44 @@ returns-in-Err-clause-outcome g c = λ from knows.
       disk = g.D.Disk.fault_count c.args.disk.now;
       written = g.O.Output.written c.args.output.now;
       from = from;
+      start = nothing_yet;
       most = c.args.most;
     } in
-    outcome c.open_status.result c.end-in-Err.result (g.D.Disk.since c.open.new.disk (g.D.Disk.clock c.args.disk.now))
-    (g.D.Disk.state c.open.new.disk)
-    (λ items answers wrote runs. closed g.D.Disk.tells (Holds g.H.Shelf.tells e.files) g.D.Disk.clock g.D.Disk.since
-    g.D.Disk.state c.args.disk.now c.open.new.disk from c.open_status.result items answers wrote
-    c.open_status.ensures.closed
-    (λ told list early store. unopened_of_store c.in-Err.error c.open_status.result c.open_status.ensures.status
-    (c.in-Err.ensures.store told list early store)) knows c.open.ensures.moments
-    (g.met.D.Disk.only_now c.args.disk.now)
-    (λ m later image. g.met.D.Disk.counts_now c.open.new.disk (g.D.Disk.clock c.args.disk.now) m later image) runs)
-    (stops_closed c.open_status.result (g.I.Input.left c.args.input.now) (g.O.Output.written c.args.output.now)
-    (g.H.Shelf.fault_count c.args.shelf.now) (g.D.Disk.fault_count c.open.new.disk) (Shut from)
-    c.open_status.ensures.closed
-    (told_shut e (g.D.Disk.fault_count c.open.new.disk) c.open.ensures.later))
-    c.end-in-Err.ensures.ends
+    record {
+      start = nothing_yet;
+      fresh = fresh_yet;
+      outcome = whole_outcome c.open_status.result c.end-in-Err.result
+          (g.D.Disk.since c.open.new.disk (g.D.Disk.clock c.args.disk.now)) (g.D.Disk.state c.open.new.disk)
+          (λ items answers wrote runs. closed g.D.Disk.tells (Holds g.H.Shelf.tells e.files) g.D.Disk.clock
+          g.D.Disk.since g.D.Disk.state c.args.disk.now c.open.new.disk from c.open_status.result items answers wrote
+          c.open_status.ensures.closed
+          (λ told list early store. unopened_of_store c.in-Err.error c.open_status.result c.open_status.ensures.status
+          (c.in-Err.ensures.store told list early store)) knows c.open.ensures.moments
+          (g.met.D.Disk.only_now c.args.disk.now)
+          (λ m later image. g.met.D.Disk.counts_now c.open.new.disk (g.D.Disk.clock c.args.disk.now) m later image)
+          runs)
+          (stops_closed c.open_status.result (g.I.Input.left c.args.input.now) (g.O.Output.written c.args.output.now)
+          (g.H.Shelf.fault_count c.args.shelf.now) (g.D.Disk.fault_count c.open.new.disk) (Shut from)
+          c.open_status.ensures.closed
+          (told_shut e (g.D.Disk.fault_count c.open.new.disk) c.open.ensures.later))
+          c.end-in-Err.ensures.ends;
+      begins = begins_shut c.open_status.result g.D.Disk.tells (g.D.Disk.state c.args.disk.now).present nothing_yet
+          c.open_status.ensures.closed;
+      reads = reads_none c.open_status.result (g.I.Input.fault_count c.args.input.now) (g.I.Input.left c.args.input.now)
+          (g.I.Input.failed_at c.args.input.now) c.open_status.ensures.closed;
+    }
 
 pub returns-in-Ok-clause-in_time : goal.returns-in-Ok-clause-in_time
-returns-in-Ok-clause-in_time g c = in_time c.end.result (returns-in-Ok-clause-outcome g c None tt)
+returns-in-Ok-clause-in_time g c = in_time c.end.result ((returns-in-Ok-clause-outcome g c None tt).outcome)
 
 pub returns-in-Ok-clause-quits : goal.returns-in-Ok-clause-quits
-returns-in-Ok-clause-quits g c = quits c.end.result (returns-in-Ok-clause-outcome g c None tt)
+returns-in-Ok-clause-quits g c = quits c.end.result ((returns-in-Ok-clause-outcome g c None tt).outcome)
 
 pub returns-in-Err-clause-in_time : goal.returns-in-Err-clause-in_time
-returns-in-Err-clause-in_time g c = in_time c.end-in-Err.result (returns-in-Err-clause-outcome g c None tt)
+returns-in-Err-clause-in_time g c = in_time c.end-in-Err.result ((returns-in-Err-clause-outcome g c None tt).outcome)
 
 pub returns-in-Err-clause-quits : goal.returns-in-Err-clause-quits
-returns-in-Err-clause-quits g c = quits c.end-in-Err.result (returns-in-Err-clause-outcome g c None tt)
+returns-in-Err-clause-quits g c = quits c.end-in-Err.result ((returns-in-Err-clause-outcome g c None tt).outcome)
 
 pub returns-in-Ok-clause-no_read_fails : goal.returns-in-Ok-clause-no_read_fails
 returns-in-Ok-clause-no_read_fails g c =
