@@ -34,7 +34,7 @@ use Rattle.cdb_front.specs.RunOutcome.{EndsWith, is_whole, is_part, status_of}
 use Rattle.cdb_front.specs.StatusCodes.{status_line}
 use Rattle.cdb_front.specs.declared.exit_status.Status.{Status}
 use Rattle.cdb_front.specs.declared.exit_status.Status.TheVariants.{Done, Memory, Usage, InputFault, OutputFault, StoreFault, NotAStore, TooLong, Differs, Refused, Damaged}
-use Rattle.cdb_front.proofs.Exits.{of_entry}
+use Rattle.cdb_engine.proofs.OpenStays.{of_entry}
 
 -- ---- what was written
 

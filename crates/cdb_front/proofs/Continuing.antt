@@ -1,5 +1,5 @@
 -- Any number of runs, each over what a stop of the one before left, or on the very disk.
-use Rattle.std.proofs.Common.{◌≡◌, ◌⊎◌, inl, inr, List, [], ◌∷◌, ◌++◌, Option, None, Some, Contains, refl, ap, sym, ◌∙◌, subst, append_assoc, append-nil, arith}
+use Rattle.std.proofs.Common.{◌≡◌, ℕ, ◌⊎◌, inl, inr, List, [], ◌∷◌, ◌++◌, Option, None, Some, Contains, refl, ap, sym, ◌∙◌, subst, append_assoc, append-nil, arith}
 use Rattle.std.specs.List.{AllByRecursion}
 use Rattle.std.proofs.lemmas.List.{append_cancel_left}
 use Rattle.std.proofs.lemmas.List.Elements.{Contains-append_left, Contains-append_right}
@@ -183,7 +183,8 @@ again list (other ∷ []) entry d store clear maps image = by (maps d.present im
     by (inr (inr s)) = absurd s
 again list (a ∷ b ∷ early) entry d store clear maps image = absurd store
 
-module _ (v : Devices) (life : Life v) (base : Base) (goes : Goes v life (Some base)) where
+module _ (v : Devices) (life : Life v) (base : Base) (now_is : base.moment ≡ v.clock life.old)
+    (goes : Goes v life (Some base)) where
   abbrev kept : List Publication
   kept = acknowledged goes.outcome.run.begun goes.outcome.transcript.answers goes.outcome.transcript.wrote
 
@@ -228,7 +229,8 @@ module _ (v : Devices) (life : Life v) (base : Base) (goes : Goes v life (Some b
       → (list : List Publication) × MayLeave base goes.outcome.run.begun (acked_at v life m base stop goes) list
       × Stands m list
   stop_left m (at_end image) = exit_left goes.outcome.status kept m kept_none (goes.outcome.run.at_exit m image)
-  stop_left m (amid since) = by (goes.outcome.run.since m since)
+  stop_left m (amid since) = by (goes.outcome.run.since m
+      (subst (λ (t : ℕ). v.since life.new t m) (sym now_is) since))
     where
       by : StandsSince base goes.outcome.run.begun m
           → (list : List Publication) × MayLeave base goes.outcome.run.begun [] list × Stands m list
@@ -432,7 +434,7 @@ next_run : (v : Devices) (list : List Publication) (early : List (List Publicati
     (earlier : List (Life v))
     (line : Succession v list early last (life ∷ earlier)) → v.disk_tells → Meets v last
     → (before : Carried v list early life earlier line.1)
-    → Found v life (base_for v before.now before.others life) before.goes
+    → Found v life (base_for v before.now before.others life) refl before.goes
     (acked_by v life last line.0 (base_for v before.now before.others life) before.goes) (v.state last.old)
     → Carried v list early last (life ∷ earlier) line
 next_run v list early last life earlier line told meets before f =
@@ -478,4 +480,4 @@ continues v told list early last [] line meets =
 continues v told list early last (life ∷ earlier) line meets =
     let before = continues v told list early life earlier line.1 meets.1 in
     next_run v list early last life earlier line told meets.0 before
-    (link_found v life (base_for v before.now before.others life) before.goes last line.0 before.store)
+    (link_found v life (base_for v before.now before.others life) refl before.goes last line.0 before.store)

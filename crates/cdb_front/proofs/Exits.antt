@@ -5,7 +5,7 @@ use Rattle.std.proofs.KnownBytes.{Appends-nil}
 use Rattle.cdb_model.specs.AnswerTexts.{tally}
 use Rattle.cdb_model.specs.Begun.{completes, whole_answers, acknowledged, unfinished, HasBegun}
 use Rattle.cdb_model.specs.Events.{Answer}
-use Rattle.cdb_model.specs.Images.{Base, IsNext, StandsKept, StandsForOne, StandsSince}
+use Rattle.cdb_model.specs.Images.{Base, StandsKept, StandsForOne, StandsSince}
 use Rattle.cdb_model.specs.KnownStore.{KnownState, Going, start_at}
 use Rattle.cdb_model.specs.Maps.{Content, FileMap}
 use Rattle.cdb_model.specs.Publications.{Publication}
@@ -20,9 +20,11 @@ use Rattle.cdb_files.specs.Disk as disk
 use Rattle.cdb_files.specs.Disk.{IsImage}
 use Rattle.cdb_files.specs.Moments.{AddsOnly}
 use Rattle.cdb_engine.specs.Store.{IsStore}
+use Rattle.cdb_engine.proofs.OpenStays.{early_since}
+use Rattle.cdb_front.specs.Beginning.{OpensBy}
 use Rattle.cdb_front.specs.EntryStore.{HasStore, IsKnown}
 use Rattle.cdb_front.proofs.Followed.{IsLeftBy, IsFollowed}
-use Rattle.cdb_front.specs.RunOutcome.{EndsFrom, EndsUnwritten, Unwritten, EndsWith, StopsScript, Outcome, WasOpened, HasNoStore, IsOfStore, StandsAtExit, IsLeftAtRest, RestsAt}
+use Rattle.cdb_front.specs.RunOutcome.{EndsFrom, LeavesNoEarly, StandsSinceOpening, EndsUnwritten, Unwritten, EndsWith, StopsScript, Outcome, WasOpened, HasNoStore, IsOfStore, StandsAtExit, IsLeftAtRest, RestsAt}
 use Rattle.cdb_front.specs.RunProgress.{Sight, RunStart, Holds, Runs, Told, base_of}
 use Rattle.cdb_front.specs.declared.exit_status.Status.{Status}
 use Rattle.cdb_front.specs.declared.exit_status.Status.TheVariants.{Done, Memory, Usage, InputFault, OutputFault, StoreFault, NotAStore, TooLong, Differs, Refused, Damaged}
@@ -144,17 +146,32 @@ opened_store (Differs path) o = absurd o
 opened_store (Refused limit) o = absurd o
 opened_store (Damaged expected found) o = absurd o
 
+-- since opening ended no crash leaves an early list
+opened_since : (status : Status) (base : Base) (begun : List Publication) (opened now : ℕ)
+    (Since : ℕ → FileMap → Type 0) → LeavesNoEarly base begun opened now Since
+    → StandsSinceOpening status base begun opened now Since
+opened_since Done base begun opened now Since l = l
+opened_since Memory base begun opened now Since l = tt
+opened_since Usage base begun opened now Since l = tt
+opened_since InputFault base begun opened now Since l = l
+opened_since OutputFault base begun opened now Since l = l
+opened_since StoreFault base begun opened now Since l = tt
+opened_since (NotAStore version place) base begun opened now Since l = tt
+opened_since TooLong base begun opened now Since l = l
+opened_since (Differs path) base begun opened now Since l = tt
+opened_since (Refused limit) base begun opened now Since l = tt
+opened_since (Damaged expected found) base begun opened now Since l = tt
+
 -- a run that is followed has ended
-pub ended : (Has : Text → Content → Type 0) (tells : Type 0) (from : Option Base) (status : Status) (items : List Item)
-    (answers : List Answer) (wrote : Text)
-    (moment : ℕ) (Since : ℕ → FileMap → Type 0) (entry d : disk.State) (Now : Base → KnownState → Type 0)
-    → ((base : Base) (s : KnownState) → Now base s → IsFollowed base s (Since base.moment) d)
-    → WasOpened status → IsKnown tells from moment entry
+pub ended : (Has : Text → Content → Type 0) (from : Option Base) (status : Status) (items : List Item)
+    (answers : List Answer) (wrote : Text) (opened now : ℕ) (Since : ℕ → FileMap → Type 0) (d : disk.State)
+    (Now : Base → KnownState → Type 0)
+    → ((base : Base) (s : KnownState) → Now base s → IsFollowed base s opened now Since d) → WasOpened status
     → Runs Has from items answers (λ s. Now (base_of from) s
     × EndsUnwritten status known_store Has (start_at (base_of from).list) items answers s)
-    → EndsFrom Has from status items answers wrote (Since moment) d
-ended Has tells None status items answers wrote moment Since entry d Now followed opened knows runs = tt
-ended Has tells (Some base) status items answers wrote moment Since entry d Now followed opened knows runs =
+    → EndsFrom Has from status items answers wrote opened now Since d
+ended Has None status items answers wrote opened now Since d Now followed was_opened runs = tt
+ended Has (Some base) status items answers wrote opened now Since d Now followed was_opened runs =
     let f = followed base runs.next runs.now.0 in
     let first = kept_first Has base.list runs.next items answers f.begun wrote runs.step f.has_begun in
     record {
@@ -163,12 +180,13 @@ ended Has tells (Some base) status items answers wrote moment Since entry d Now 
       last = runs.now.1;
       begun = f.begun;
       has_begun = f.has_begun;
-      since = λ m was. f.since m (subst (λ (t : ℕ). Since t m) (sym knows.now) was);
+      since = f.since;
+      since_opening = opened_since status base f.begun opened now Since f.opening;
       at_exit = λ m image. at_exit status base f.begun (acknowledged f.begun answers wrote) m
           (exit_kept base.list runs.next d f.begun (acknowledged f.begun answers wrote) f.has_begun f.left
           first m image);
       rests = rests_at status runs.next d (at_rest runs.next d f.left);
-      of_store = opened_store status opened;
+      of_store = opened_store status was_opened;
     }
 
 -- ---- the beginning
@@ -188,6 +206,7 @@ told_begins {tells = tells} e faults Now later begins start =
       order = record { next = e.start; step = (refl, refl); now = start };
       shelf_counted = λ short. omega arith;
       disk_counted = λ short. omega arith;
+      other = tt;
       appended = Appends-nil e.written;
     }
   where
@@ -196,50 +215,22 @@ told_begins {tells = tells} e faults Now later begins start =
     by (Some base) b = record { next = start_at base.list; step = (refl, refl); now = b }
 
 -- where the store is known, an engine that was opened begins with its list
-pub opens : (tells : Type 0) (moment : ℕ) (entry : disk.State) (from : Option Base) (Now : Base → KnownState → Type 0)
+pub starts : (tells : Type 0) (moment : ℕ) (entry : disk.State) (from : Option Base) (Now : Base → KnownState → Type 0)
     → IsKnown tells from moment entry → ((base : Base) → HasStore tells base moment entry
     → Now base (start_at base.list)) → Starts from (Now (base_of from))
-opens tells moment entry None Now knows begins = tt
-opens tells moment entry (Some base) Now knows begins = begins base knows
+starts tells moment entry None Now knows begins = tt
+starts tells moment entry (Some base) Now knows begins = begins base knows
+
+-- and up to the end of opening nothing is begun
+pub opens_by : {D : Type 0} (tells : Type 0) (clock : D → ℕ) (since : D → ℕ → FileMap → Type 0) (state : D → disk.State)
+    (old opened : D) (from : Option Base) → IsKnown tells from (clock old) (state old)
+    → (tells → (list : List Publication) (early : List (List Publication)) → IsStore list early (state old)
+    → AddsOnly clock since old opened (StandsForOne (list ∷ early))) → OpensBy clock since from old opened
+opens_by tells clock since state old opened None knows moments = tt
+opens_by tells clock since state old opened (Some base) knows moments =
+    moments knows.told base.list base.early knows.store
 
 -- ---- no store was opened
-
--- what a crash leaves of a store stands for its list, or for one of the early ones
-pub of_entry : (list : List Publication) (early : List (List Publication)) (d : disk.State) (m : FileMap)
-    → IsStore list early d → IsImage d m → StandsForOne (list ∷ early) m
-of_entry list [] d m store image = inl (store.stands m image)
-of_entry list (other ∷ []) d m store image = by store.next (store.faulted.either m image)
-  where
-    by : IsNext store.shorter store.x list other → Stands m store.shorter ⊎ Stands m (store.shorter ++ store.x ∷ [])
-        → StandsForOne (list ∷ other ∷ []) m
-    by (inl e) (inl s) = inl (subst (Stands m) (sym e.0) s)
-    by (inl e) (inr s) = inr (inl (subst (Stands m) (sym e.1) s))
-    by (inr e) (inl s) = inr (inl (subst (Stands m) (sym e.1) s))
-    by (inr e) (inr s) = inl (subst (Stands m) (sym e.0) s)
-of_entry list (a ∷ b ∷ early) d m store image = absurd store
-
--- whatever a crash left since the beginning stands for the list, or for one of the early ones
-pub early_since : {D : Type 0} (clock : D → ℕ) (since : D → ℕ → FileMap → Type 0) (state : D → disk.State) (old new : D)
-    (base : Base) (begun : List Publication) → base.moment ≡ clock old → IsStore base.list base.early (state old)
-    → AddsOnly clock since old new (StandsForOne (base.list ∷ base.early))
-    → ((m : FileMap) → since old (clock old) m → IsImage (state old) m) → (m : FileMap) → since new base.moment m
-    → StandsSince base begun m
-early_since clock since state old new base begun now store adds only_now m was =
-    by (adds.nothing_else base.moment m (let n = now in omega (arith, n)) was)
-  where
-    one : StandsForOne (base.list ∷ base.early) m → StandsSince base begun m
-    one (inl stands) = inl record {
-      first = [];
-      later = begun;
-      joined = refl;
-      stands = subst (Stands m) (sym (append-nil base.list)) stands;
-    }
-    one (inr early) = inr early
-
-    by : since old base.moment m ⊎ StandsForOne (base.list ∷ base.early) m → StandsSince base begun m
-    by (inl before) = one (of_entry base.list base.early (state old) m store
-        (only_now m (subst (λ (t : ℕ). since old t m) now before)))
-    by (inr during) = one during
 
 pub take-none : (n : ℕ) (l : List Publication) → l ≡ [] → take n l ≡ []
 take-none zero l e = refl
@@ -301,6 +292,20 @@ exit_shut (Differs path) base kept m c s = absurd c
 exit_shut (Refused limit) base kept m c s = absurd c
 exit_shut (Damaged expected found) base kept m c s = absurd c
 
+since_shut : (status : Status) (base : Base) (opened now : ℕ) (Since : ℕ → FileMap → Type 0) → HasNoStore status
+    → StandsSinceOpening status base [] opened now Since
+since_shut Done base opened now Since c = absurd c
+since_shut Memory base opened now Since c = tt
+since_shut Usage base opened now Since c = tt
+since_shut InputFault base opened now Since c = absurd c
+since_shut OutputFault base opened now Since c = absurd c
+since_shut StoreFault base opened now Since c = tt
+since_shut (NotAStore version place) base opened now Since c = tt
+since_shut TooLong base opened now Since c = absurd c
+since_shut (Differs path) base opened now Since c = absurd c
+since_shut (Refused limit) base opened now Since c = absurd c
+since_shut (Damaged expected found) base opened now Since c = absurd c
+
 -- the run ended in opening: every image stands for the list, or for one of the early ones
 pub closed : {D : Type 0} (tells : Type 0) (Has : Text → Content → Type 0) (clock : D → ℕ)
     (since : D → ℕ → FileMap → Type 0) (state : D → disk.State) (old new : D) (from : Option Base) (status : Status)
@@ -313,7 +318,7 @@ pub closed : {D : Type 0} (tells : Type 0) (Has : Text → Content → Type 0) (
     → ((m : FileMap) → clock old ≤ clock new → IsImage (state new) m → since new (clock old) m)
     → Runs Has from items answers (λ s. Shut from known s
     × EndsUnwritten status known_store Has (start_at (base_of from).list) items answers s)
-    → EndsFrom Has from status items answers wrote (since new (clock old)) (state new)
+    → EndsFrom Has from status items answers wrote (clock new) (clock new) (since new) (state new)
 closed tells Has clock since state old new None status items answers wrote shut of_store knows moments only_now
     counts_now runs = tt
 closed tells Has clock since state old new (Some base) status items answers wrote shut of_store knows moments only_now
@@ -329,7 +334,9 @@ closed tells Has clock since state old new (Some base) status items answers wrot
         begun_is = ap (λ (s : KnownState). unfinished s.going s.halted) (sym runs.now.0);
       };
       since = since_entry;
-      at_exit = λ m image. exit_shut status base kept m shut (either m (since_entry m (counts_now m adds.later image)));
+      since_opening = since_shut status base (clock new) (clock new) (since new) shut;
+      at_exit = λ m image. exit_shut status base kept m shut (either m (since_entry m
+          (subst (λ (t : ℕ). since new t m) (sym knows.now) (counts_now m adds.later image))));
       rests = rests_shut status runs.next (state new) shut;
       of_store = of_store knows.told base.list base.early knows.store;
     }
@@ -337,9 +344,8 @@ closed tells Has clock since state old new (Some base) status items answers wrot
     adds : AddsOnly clock since old new (StandsForOne (base.list ∷ base.early))
     adds = moments knows.told base.list base.early knows.store
 
-    since_entry : (m : FileMap) → since new (clock old) m → StandsSince base [] m
-    since_entry m was = early_since clock since state old new base [] knows.now knows.store adds only_now m
-        (subst (λ (t : ℕ). since new t m) (sym knows.now) was)
+    since_entry : (m : FileMap) → since new base.moment m → StandsSince base [] m
+    since_entry = early_since clock since state old new base [] knows.now knows.store adds only_now
 
     kept : List Publication
     kept = acknowledged [] answers wrote
@@ -359,13 +365,14 @@ closed tells Has clock since state old new (Some base) status items answers wrot
 -- ---- the whole outcome
 
 abbrev pub whole_outcome : {tells : Type 0} {e : RunStart} {shelf faults : ℕ}
-    {left left' written written' : Option (List ℕ)} {Now : Sight} (status result : Status) (Since : FileMap → Type 0) (d : disk.State)
+    {left left' written written' : Option (List ℕ)} {Now : Sight} (status result : Status) (now : ℕ)
+    (Since : ℕ → FileMap → Type 0) (d : disk.State)
     → ((items : List Item) (answers : List Answer) (wrote : Text)
     → Runs (Holds tells e.files) e.from items answers (Unwritten tells e status items answers Now known)
-    → EndsFrom (Holds tells e.files) e.from status items answers wrote Since d)
+    → EndsFrom (Holds tells e.files) e.from status items answers wrote e.opened now Since d)
     → StopsScript tells e shelf faults left left' written Now status → EndsWith status written written' result
-    → Outcome tells e shelf faults left left' written' Since d result
-whole_outcome {written = written} status result Since d ends s line =
+    → Outcome tells e shelf faults left left' written' now Since d result
+whole_outcome {written = written} status result now Since d ends s line =
     record {
       status = status;
       written = written;
@@ -384,7 +391,7 @@ pub unopened : {D : Type 0} (tells : Type 0) (Has : Text → Content → Type 0)
     → ((m : FileMap) → clock d ≤ clock d → IsImage (state d) m → since d (clock d) m)
     → Runs Has from items answers (λ s. Shut from known s
     × EndsUnwritten status known_store Has (start_at (base_of from).list) items answers s)
-    → EndsFrom Has from status items answers wrote (since d (clock d)) (state d)
+    → EndsFrom Has from status items answers wrote (clock d) (clock d) (since d) (state d)
 unopened tells Has clock since state d from status items answers wrote shut of_store knows only_now counts_now runs =
     closed tells Has clock since state d d from status items answers wrote shut
     (λ told list early store. of_store) knows

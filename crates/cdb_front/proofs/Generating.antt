@@ -1,5 +1,5 @@
 -- How a run of mode generate ends.
-use Rattle.std.proofs.Common.{◌≡◌, ◌⊎◌, inl, inr, ℕ, List, [], ◌∷◌, length, Option, None, Result, Ok, Err, refl, sym, ap, ◌∙◌, subst, arith}
+use Rattle.std.proofs.Common.{◌≡◌, ◌⊎◌, inl, inr, ℕ, ◌≤◌, List, [], ◌∷◌, Option, None, Some, Result, Ok, Err, refl, sym, ap, ◌∙◌, subst, arith}
 use Rattle.std.specs.Io.KnownBytes.{Appends}
 use Rattle.cdb_model.specs.Causes.{Rose}
 use Rattle.cdb_model.specs.Images.{Base, StandsForOne}
@@ -8,15 +8,12 @@ use Rattle.cdb_model.specs.Maps.{FileMap}
 use Rattle.cdb_model.specs.Publications.{Publication}
 use Rattle.cdb_model.specs.Stands.{Stands}
 use Rattle.cdb_model.specs.Stores.{known, any, any_store}
-use Rattle.cdb_model.specs.Transitions.{StateIn}
+use Rattle.cdb_model.specs.Transitions.{StateIn, IsFreshIn}
 use Rattle.cdb_files.specs.Disk as disk
 use Rattle.cdb_files.specs.Disk.{IsImage}
 use Rattle.cdb_files.specs.Moments.{AddsOnly}
 use Rattle.cdb_chain.specs.declared.open_error.OpenError.{OpenError}
 use Rattle.cdb_chain.specs.declared.open_error.OpenError.TheVariants as refused
-use Rattle.cdb_manifest.specs.declared.record_.Record.{Record}
-use Rattle.cdb_publish.specs.Entries.{entries_in}
-use Rattle.cdb_engine.specs.Checks.{AreOpened}
 use Rattle.cdb_engine.specs.Store.{IsStore, IsStoreFound}
 use Rattle.cdb_generate.specs.Generated.{Generates, summary_text}
 use Rattle.cdb_generate.specs.Generator.{passed}
@@ -25,18 +22,21 @@ use Rattle.cdb_engine.specs.Populating.{HasPending}
 use Rattle.cdb_engine.specs.declared.errors.PopulateError.{PopulateError}
 use Rattle.cdb_engine.specs.declared.errors.PopulateError.TheVariants as populate
 use Rattle.cdb_engine.specs.declared.filling.Made.{Made}
+use Rattle.cdb_engine.specs.OtherSizes.{FillFindsOther}
+use Rattle.cdb_front.specs.Beginning.{CountsRecords, OpensBy}
 use Rattle.cdb_front.specs.Devices.{WritesPart}
 use Rattle.cdb_front.specs.EntryStore.{HasStore}
-use Rattle.cdb_front.specs.Generating.{SaysMade, SaysLess, EndsMade, StopsFrom, SaysStop, Fills, CompletesFillOf}
+use Rattle.cdb_front.specs.Generating.{SaysMade, SaysLess, EndsMade, StopsFrom, TellsMade, MadeFrom, FillsAsRead, MadeSinceOpening, Fills, CompletesFillOf}
 use Rattle.cdb_front.specs.inside.Generating.{made_status}
-use Rattle.cdb_front.specs.RunOutcome.{EndsWith, is_whole, is_part, status_of}
+use Rattle.cdb_front.specs.RunOutcome.{EndsWith, is_whole, is_part, LeavesNoEarly, status_of}
 use Rattle.cdb_front.specs.StatusCodes.{status_line}
 use Rattle.cdb_front.specs.declared.exit_status.Limit.{Limit}
 use Rattle.cdb_front.specs.declared.exit_status.Limit.TheVariants.{Entries, Versions}
 use Rattle.cdb_front.specs.declared.exit_status.Status.{Status}
 use Rattle.cdb_front.specs.declared.exit_status.Status.TheVariants.{Done, Memory, Usage, InputFault, OutputFault, StoreFault, NotAStore, TooLong, Differs, Refused, Damaged}
 use Rattle.cdb_front.proofs.Checking.{no_rise}
-use Rattle.cdb_front.proofs.Exits.{early_since}
+use Rattle.cdb_front.proofs.Exits.{nothing_yet, fresh_yet}
+use Rattle.cdb_engine.proofs.OpenStays.{early_since}
 
 -- ---- what was written
 
@@ -73,11 +73,59 @@ made_end : (status result : Status) (list : List Publication) (start count : ℕ
 made_end status result list start count begun Left old new (is_whole whole) ends = ends
 made_end status result list start count begun Left old new (is_part part) ends = tt
 
--- what is told of a limit, of a status that tells none, or of its line that was cut off
-stop_end : (status result : Status) (present : FileMap) (start count : ℕ) (old new : Option (List ℕ))
-    → EndsWith status old new result → SaysStop present start count status → SaysStop present start count result
-stop_end status result present start count old new (is_whole whole) says = says
-stop_end status result present start count old new (is_part part) says = tt
+-- what is said whatever the disk held, of a status, or of its line that was cut off
+from_end : (status result : Status) (entry : StateIn any_store) (start count : ℕ) (old new : Option (List ℕ))
+    → EndsWith status old new result → MadeFrom entry start count old new status
+    → MadeFrom entry start count old new result
+from_end status result entry start count old new (is_whole whole) made = made
+from_end status result entry start count old new (is_part part) made = tt
+
+read_end : (status result : Status) (tells : Type 0) (present : FileMap) (entry : StateIn any_store)
+    (old new : Option (List ℕ)) → EndsWith status old new result → FillsAsRead tells present entry status
+    → FillsAsRead tells present entry result
+read_end status result tells present entry old new (is_whole whole) read = read
+read_end status result tells present entry old new (is_part part) read = tt
+
+-- since opening ended no crash leaves an early list, or nothing is begun
+module _ (base : Base) (begun : List Publication) (opened now : ℕ) (Since : ℕ → FileMap → Type 0) where
+  since_loose : (status : Status) → MadeSinceOpening status base begun opened now Since
+      → LeavesNoEarly base begun opened now Since ⊎ (begun ≡ [])
+  since_loose Done s = inl s
+  since_loose (Refused limit) s = inl s
+  since_loose Memory s = s
+  since_loose Usage s = s
+  since_loose InputFault s = s
+  since_loose OutputFault s = s
+  since_loose StoreFault s = s
+  since_loose (NotAStore version place) s = s
+  since_loose TooLong s = s
+  since_loose (Differs path) s = s
+  since_loose (Damaged expected found) s = s
+
+  since_end : (status result : Status) (old new : Option (List ℕ)) → EndsWith status old new result
+      → MadeSinceOpening status base begun opened now Since → MadeSinceOpening result base begun opened now Since
+  since_end status result old new (is_whole whole) s = s
+  since_end status result old new (is_part part) s = since_loose status s
+
+  since_opened : (status : Status) → LeavesNoEarly base begun opened now Since
+      → MadeSinceOpening status base begun opened now Since
+  since_opened Done l = l
+  since_opened (Refused limit) l = l
+  since_opened Memory l = inl l
+  since_opened Usage l = inl l
+  since_opened InputFault l = inl l
+  since_opened OutputFault l = inl l
+  since_opened StoreFault l = inl l
+  since_opened (NotAStore version place) l = inl l
+  since_opened TooLong l = inl l
+  since_opened (Differs path) l = inl l
+  since_opened (Damaged expected found) l = inl l
+
+  since_unopened : (error : OpenError) → begun ≡ []
+      → MadeSinceOpening (status_of error) base begun opened now Since
+  since_unopened refused.Memory none = inr none
+  since_unopened refused.Fault none = inr none
+  since_unopened (refused.NotAStore version place) none = inr none
 
 -- ---- nothing was begun
 
@@ -97,10 +145,16 @@ module _ {D : Type 0} (tells : Type 0) (state : D → disk.State) (clock : D →
       → Fills tells state clock since start count old old written written' result
   fills_nothing result ends = record {
     says = says_end Memory result written written' tt ends;
-    stop = λ told. stop_end Memory result (state old).present start count written written' ends tt;
+    entry = nothing_yet;
+    fresh = fresh_yet;
+    begins = read_end Memory result tells (state old).present nothing_yet written written' ends tt;
+    made = from_end Memory result nothing_yet start count written written' ends tt;
+    opened = old;
+    opens = λ base has. record { later = omega arith; nothing_else = λ t m earlier was. inl was };
     store = λ base has. record {
       begun = [];
       generates = none_begun old base has record { later = omega arith; nothing_else = λ t m earlier was. inl was };
+      since_opening = since_end base [] (clock old) (clock old) (since old) Memory result written written' ends (inr refl);
       ends = made_end Memory result base.list start count [] (IsImage (state old)) written written' ends tt;
     };
   }
@@ -116,10 +170,15 @@ module _ {D : Type 0} (tells : Type 0) (state : D → disk.State) (clock : D →
   ends_unopened refused.Fault list Left found = tt
   ends_unopened (refused.NotAStore version place) list Left found = absurd found
 
-  stop_unopened : (error : OpenError) (present : FileMap) → SaysStop present start count (status_of error)
-  stop_unopened refused.Memory present = tt
-  stop_unopened refused.Fault present = tt
-  stop_unopened (refused.NotAStore version place) present = tt
+  made_unopened : (error : OpenError) → MadeFrom nothing_yet start count written written' (status_of error)
+  made_unopened refused.Memory = tt
+  made_unopened refused.Fault = tt
+  made_unopened (refused.NotAStore version place) = tt
+
+  read_unopened : (error : OpenError) (present : FileMap) → FillsAsRead tells present nothing_yet (status_of error)
+  read_unopened refused.Memory present = tt
+  read_unopened refused.Fault present = tt
+  read_unopened (refused.NotAStore version place) present = tt
 
   pub fills_unopened : (mid : D) → (tells → (list : List Publication) (early : List (List Publication))
       → IsStore list early (state old) → AddsOnly clock since old mid (StandsForOne (list ∷ early)))
@@ -130,11 +189,20 @@ module _ {D : Type 0} (tells : Type 0) (state : D → disk.State) (clock : D →
       → Fills tells state clock since start count old mid written written' result
   fills_unopened mid moments error status result is found ends = record {
     says = says_end status result written written' (subst HasLine (sym is) (line_unopened error)) ends;
-    stop = λ told. stop_end status result (state old).present start count written written' ends
-        (subst (SaysStop (state old).present start count) (sym is) (stop_unopened error (state old).present));
+    entry = nothing_yet;
+    fresh = fresh_yet;
+    begins = read_end status result tells (state old).present nothing_yet written written' ends
+        (subst (FillsAsRead tells (state old).present nothing_yet) (sym is) (read_unopened error (state old).present));
+    made = from_end status result nothing_yet start count written written' ends
+        (subst (MadeFrom nothing_yet start count written written') (sym is) (made_unopened error));
+    opened = mid;
+    opens = λ base has. moments has.told base.list base.early has.store;
     store = λ base has. record {
       begun = [];
       generates = none_begun mid base has (moments has.told base.list base.early has.store);
+      since_opening = since_end base [] (clock mid) (clock mid) (since mid) status result written written' ends
+          (subst (λ (x : Status). MadeSinceOpening x base [] (clock mid) (clock mid) (since mid)) (sym is)
+          (since_unopened base [] (clock mid) (clock mid) (since mid) error refl));
       ends = made_end status result base.list start count [] (IsImage (state mid)) written written' ends
           (subst (EndsMade base.list start count [] (IsImage (state mid)) written written') (sym is)
           (ends_unopened error base.list (IsImage (state mid)) (found has.told base.list base.early has.store)));
@@ -194,51 +262,74 @@ module _ {D : Type 0} (tells : Type 0) (state : D → disk.State) (clock : D →
   stops_any error entry last other (inl nothing) = absurd (other nothing.0)
   stops_any error entry last other (inr stops) = stops
 
-  stop_of : (error : PopulateError) (present mid : FileMap) (records : List Record) → AreOpened present mid records
-      → (entry : StateIn any_store) → entry.list ≡ record { versions = length records; entries = entries_in records }
-      → (last : StateIn any_store) → PopulatesIn any entry start count (Err error) last
-      → SaysStop present start count (made_status error)
-  stop_of error present mid records opened entry list_is last step = by error step
-    where
-      from : (error : PopulateError) → (error ≡ populate.Memory → ⊥)
-          → PopulatesIn any entry start count (Err error) last → StopsFrom present start count error
-      from error other step = record {
-        left = mid;
-        records = records;
-        opened = opened;
-        entry = entry;
-        list_is = list_is;
-        next = last;
-        stops = stops_any error entry last other step;
-      }
+  stops_from : (error : PopulateError) (entry last : StateIn any_store) → (error ≡ populate.Memory → ⊥)
+      → PopulatesIn any entry start count (Err error) last → StopsFrom entry start count error
+  stops_from error entry last other step = record { next = last; stops = stops_any error entry last other step }
 
-      by : (error : PopulateError) → PopulatesIn any entry start count (Err error) last
-          → SaysStop present start count (made_status error)
-      by populate.Memory step = tt
-      by populate.Fault step = tt
-      by (populate.Entries n) step = from (populate.Entries n) (λ e. cc) step
-      by populate.Versions step = from populate.Versions (λ e. cc) step
-      by (populate.Damaged expected found) step = from (populate.Damaged expected found) (λ e. cc) step
+  made_stopped : (error : PopulateError) (entry last : StateIn any_store) → FillFindsOther error
+      → PopulatesIn any entry start count (Err error) last
+      → MadeFrom entry start count written written' (made_status error)
+  made_stopped populate.Memory entry last finds step = tt
+  made_stopped populate.Fault entry last finds step = tt
+  made_stopped (populate.Entries n) entry last finds step =
+      stops_from (populate.Entries n) entry last (λ e. cc) step
+  made_stopped populate.Versions entry last finds step = stops_from populate.Versions entry last (λ e. cc) step
+  made_stopped (populate.Damaged expected found) entry last finds step =
+      (stops_from (populate.Damaged expected found) entry last (λ e. cc) step, finds)
 
-  module _ (new : D) where
+  read_stopped : (error : PopulateError) (present : FileMap) (entry : StateIn any_store)
+      → (tells → CountsRecords present entry) → FillsAsRead tells present entry (made_status error)
+  read_stopped populate.Memory present entry read = tt
+  read_stopped populate.Fault present entry read = tt
+  read_stopped (populate.Entries n) present entry read = read
+  read_stopped populate.Versions present entry read = read
+  read_stopped (populate.Damaged expected found) present entry read = read
+
+  -- the lines tell of the versions that there were
+  counts_made : (made : Made) (entry last : StateIn any_store)
+      → Appends written written' (summary_text made.versions made.files made.sum)
+      → PopulatesIn any entry start count (Ok made) last → TellsMade entry start count written written'
+  counts_made made entry last appended step = record {
+    files = made.files;
+    files_are = step.0.follow.2;
+    sum = made.sum;
+    appended = subst (λ n. Appends written written' (summary_text n made.files made.sum)) (step.1 ∙ step.0.follow.0)
+        appended;
+  }
+
+  module _ (opened new : D) (entry last : StateIn any_store) (fresh : IsFreshIn any_store entry)
+      (read : tells → CountsRecords (state old).present entry)
+      (opens : (base : Base) → HasStore tells base (clock old) (state old)
+      → OpensBy clock since (Some base) old opened)
+      (earlier : (base : Base) → HasStore tells base (clock old) (state old) → clock opened ≤ clock new) where
+    no_early : (base : Base) → HasStore tells base (clock old) (state old) → (result : Result Made PopulateError)
+        → (p : Populates base start count (since new base.moment) (since new (clock opened)) (IsImage (state new)) result)
+        → LeavesNoEarly base p.begun (clock opened) (clock new) (since new)
+    no_early base has result p = record { earlier = earlier base has; later = p.later_images }
+
     pub fills_stopped : (error : PopulateError) (status result : Status) → status ≡ made_status error
-        → (mid : FileMap) (records : List Record) → (tells → AreOpened (state old).present mid records)
-        → (entry : StateIn any_store)
-        → entry.list ≡ record { versions = length records; entries = entries_in records }
-        → (last : StateIn any_store) → PopulatesIn any entry start count (Err error) last
+        → FillFindsOther error → PopulatesIn any entry start count (Err error) last
         → ((base : Base) → HasStore tells base (clock old) (state old) → Came base (Err error) (IsImage (state new)))
         → ((base : Base) → HasStore tells base (clock old) (state old)
-        → Populates base start count (since new base.moment) (IsImage (state new)) (Err error))
+        → Populates base start count (since new base.moment) (since new (clock opened)) (IsImage (state new)) (Err error))
         → EndsWith status written written' result
         → Fills tells state clock since start count old new written written' result
-    fills_stopped error status result is mid records opened entry list_is last step came populates ends = record {
+    fills_stopped error status result is finds step came populates ends = record {
       says = says_end status result written written' (subst HasLine (sym is) (line_stopped error)) ends;
-      stop = λ told. stop_end status result (state old).present start count written written' ends
-          (subst (SaysStop (state old).present start count) (sym is)
-          (stop_of error (state old).present mid records (opened told) entry list_is last step));
+      entry = entry;
+      fresh = fresh;
+      begins = read_end status result tells (state old).present entry written written' ends
+          (subst (FillsAsRead tells (state old).present entry) (sym is)
+          (read_stopped error (state old).present entry read));
+      made = from_end status result entry start count written written' ends
+          (subst (MadeFrom entry start count written written') (sym is) (made_stopped error entry last finds step));
+      opened = opened;
+      opens = opens;
       store = λ base has. let p = populates base has in record {
         begun = p.begun;
         generates = p.generates;
+        since_opening = since_end base p.begun (clock opened) (clock new) (since new) status result written written' ends
+            (since_opened base p.begun (clock opened) (clock new) (since new) status (no_early base has (Err error) p));
         ends = made_end status result base.list start count p.begun (IsImage (state new)) written written' ends
             (subst (EndsMade base.list start count p.begun (IsImage (state new)) written written') (sym is)
             (ends_stopped error base p.begun (IsImage (state new)) (came base has) p.undamaged));
@@ -246,15 +337,22 @@ module _ {D : Type 0} (tells : Type 0) (state : D → disk.State) (clock : D →
     }
 
     pub fills_all : (made : Made) → Appends written written' (summary_text made.versions made.files made.sum)
+        → PopulatesIn any entry start count (Ok made) last
         → ((base : Base) → HasStore tells base (clock old) (state old)
-        → Populates base start count (since new base.moment) (IsImage (state new)) (Ok made))
+        → Populates base start count (since new base.moment) (since new (clock opened)) (IsImage (state new)) (Ok made))
         → Fills tells state clock since start count old new written written' Done
-    fills_all made appended populates = record {
+    fills_all made appended step populates = record {
       says = record { versions = made.versions; files = made.files; sum = made.sum; appended = appended };
-      stop = λ told. tt;
+      entry = entry;
+      fresh = fresh;
+      begins = read;
+      made = counts_made made entry last appended step;
+      opened = opened;
+      opens = opens;
       store = λ base has. let p = populates base has in record {
         begun = p.begun;
         generates = p.generates;
+        since_opening = no_early base has (Ok made) p;
         ends = record {
           wrote = summary_text made.versions made.files made.sum;
           appended = appended;
@@ -275,12 +373,22 @@ module _ {D : Type 0} (tells : Type 0) (state : D → disk.State) (clock : D →
 
     pub fills_torn : (made : Made) → WritesPart written written' (summary_text made.versions made.files made.sum)
         → ((base : Base) → HasStore tells base (clock old) (state old)
-        → Populates base start count (since new base.moment) (IsImage (state new)) (Ok made))
+        → Populates base start count (since new base.moment) (since new (clock opened)) (IsImage (state new)) (Ok made))
         → Fills tells state clock since start count old new written written' OutputFault
     fills_torn made part populates = record {
       says = SaysLess.of_summary made.versions made.files made.sum part;
-      stop = λ told. tt;
-      store = λ base has. let p = populates base has in record { begun = p.begun; generates = p.generates; ends = tt };
+      entry = entry;
+      fresh = fresh;
+      begins = tt;
+      made = tt;
+      opened = opened;
+      opens = opens;
+      store = λ base has. let p = populates base has in record {
+        begun = p.begun;
+        generates = p.generates;
+        since_opening = inl (no_early base has (Ok made) p);
+        ends = tt;
+      };
     }
 
 -- ---- a store was opened

@@ -109,8 +109,8 @@ told None P status h = tt
 told (Some bytes) P status h = λ p e. h e p
 
 pub in_time : {tells : Type 0} {e : RunStart} {shelf faults : ℕ} {left left' written' : Option (List ℕ)}
-    {Since : FileMap → Type 0} {d : disk.State} (result : Status)
-    → Outcome tells e shelf faults left left' written' Since d result
+    {now : ℕ} {Since : ℕ → FileMap → Type 0} {d : disk.State} (result : Status)
+    → Outcome tells e shelf faults left left' written' now Since d result
     → IfSome left (λ bytes. length bytes < 2 ^ 32 → result ≢ TooLong)
 in_time {e = e} {shelf = shelf} {faults = faults} {left = left} {left' = left'} {written' = written'} result o =
     told left (λ bytes. length bytes < 2 ^ 32) result
@@ -118,8 +118,8 @@ in_time {e = e} {shelf = shelf} {faults = faults} {left = left} {left' = left'} 
     (stopped_long o.status o.written written' result o.ends long) o.transcript))
 
 pub quits : {tells : Type 0} {e : RunStart} {shelf faults : ℕ} {left left' written' : Option (List ℕ)}
-    {Since : FileMap → Type 0} {d : disk.State} (result : Status)
-    → Outcome tells e shelf faults left left' written' Since d result
+    {now : ℕ} {Since : ℕ → FileMap → Type 0} {d : disk.State} (result : Status)
+    → Outcome tells e shelf faults left left' written' now Since d result
     → IfSome left (λ bytes. QuitsInTime bytes → result ≢ TooLong)
 quits {e = e} {shelf = shelf} {faults = faults} {left = left} {left' = left'} {written' = written'} result o =
     told left QuitsInTime result

@@ -20,7 +20,7 @@ use Rattle.cdb_check.specs.declared.outcome.CheckError.TheVariants as check
 use Rattle.cdb_engine.specs.Checks.{AreOpened}
 use Rattle.cdb_engine.specs.Store.{IsStoreFound, TellsNoStore}
 use Rattle.cdb_engine.specs.Tracks.{Leads}
-use Rattle.cdb_front.specs.Beginning.{IsReadFrom, BeginsAsRead}
+use Rattle.cdb_front.specs.Beginning.{CountsRecords, BeginsAsRead}
 use Rattle.cdb_front.specs.inside.Checking.{checked_status}
 use Rattle.cdb_front.specs.Failures.{ReadsOnce, EndsReading}
 use Rattle.cdb_front.specs.RunOutcome.{StopsScript, IsOfStore, Hears, AllMade, WritesAnswers, EndsScript, EndsUnwritten, HasRecords, SaysStore, WasOpened, HasNoStore, status_of}
@@ -107,6 +107,7 @@ done {tells = tells} {e = e} P read unread left left' written shelf disk Now tak
         answers = a.told.answers;
         shelf_counted = a.told.shelf_counted;
         disk_counted = a.told.disk_counted;
+        other = a.told.other;
         wrote = texts_of a.told.answers;
         appended = a.told.appended;
         writes = refl;
@@ -146,6 +147,7 @@ broken read unread left left' written shelf disk Now taken few small b finishes 
         answers = t.whole ++ t.answer ∷ [];
         shelf_counted = t.shelf_counted;
         disk_counted = t.disk_counted;
+        other = t.other;
         wrote = texts_of t.whole ++ t.part;
         appended = t.appended;
         writes = record {
@@ -291,6 +293,7 @@ cut_off {tells = tells} {e = e} {left = left} {left' = left'} {Now = Now} {taken
         answers = r.sofar.told.answers;
         shelf_counted = r.sofar.told.shelf_counted;
         disk_counted = r.sofar.told.disk_counted;
+        other = r.sofar.told.other;
         wrote = texts_of r.sofar.told.answers;
         appended = r.sofar.told.appended;
         writes = writes;
@@ -481,7 +484,7 @@ reads_none (Damaged expected found) faults left failed_at closed = absurd closed
 
 -- the store was opened, by its records
 pub begins_read : (status : Status) (tells : Type 0) (present : FileMap) (start : StateIn any_store)
-    → (tells → IsReadFrom present start) → BeginsAsRead tells present start status
+    → (tells → CountsRecords present start) → BeginsAsRead tells present start status
 begins_read Done tells present start read = read
 begins_read InputFault tells present start read = read
 begins_read OutputFault tells present start read = read

@@ -1,6 +1,6 @@
 -- How a run comes further: one byte, one line, one answer.
 use Rattle.std.proofs.Common.{◌≡◌, ◌≢◌, ℕ, ◌+◌, ◌<◌, ◌≤◌, List, [], ◌∷◌, ◌++◌, length, suc, take, drop, get_or, Option, None, Some, refl, ap, sym, ◌∙◌, append_assoc, append-nil, subst, arith}
-use Rattle.std.specs.List.{flat_map}
+use Rattle.std.specs.List.{flat_map, AllByRecursion}
 use Rattle.std.proofs.lemmas.Grind.{flat_map-append}
 use Rattle.std.proofs.Math.Seq.{split_at}
 use Rattle.std.specs.Io.KnownBytes.{Appends}
@@ -23,6 +23,7 @@ use Rattle.cdb_model.specs.Transitions.{StateIn, MakesIn}
 use Rattle.cdb_model.specs.declared.line.Line.{Line}
 use Rattle.cdb_model.specs.declared.line.Line.TheVariants as line
 use Rattle.cdb_front.specs.AnswerMeanings.{meant, IsQuiet}
+use Rattle.cdb_front.specs.DamagedSizes.{AnswerFindsOther}
 use Rattle.cdb_front.specs.Devices.{WritesPart}
 use Rattle.cdb_engine.specs.Tracks.{Leads}
 use Rattle.cdb_front.specs.Hearing.{IsEvent, IsAnswered, SaysAsked}
@@ -140,6 +141,11 @@ Counts-more kind before since now answers more first second short =
     let sum = tally-more kind answers more in
     omega (arith, sum)
 
+all_more : (P : machine.Answer → Type 0) (answers more : List machine.Answer) → AllByRecursion P answers
+    → AllByRecursion P more → AllByRecursion P (answers ++ more)
+all_more P [] more first second = second
+all_more P (a ∷ answers) more first second = (first.0, all_more P answers more first.1 second)
+
 -- ---- one item more
 
 pub told_more : {tells : Type 0} {e : RunStart} {items : List Item} {written : Option (List ℕ)} {shelf disk : ℕ}
@@ -158,6 +164,7 @@ told_more {tells = tells} {e = e} {items = items} {written = written} {shelf = s
           speaks.shelf_counted;
       disk_counted = Counts-more disk_fault e.disk disk disk' told.answers speaks.answers told.disk_counted
           speaks.disk_counted;
+      other = all_more AnswerFindsOther told.answers speaks.answers told.other speaks.other;
       appended = subst (Appends e.written now) (sym (texts_of-more told.answers speaks.answers))
           (Appends-trans e.written written now (texts_of told.answers) (texts_of speaks.answers) told.appended
           speaks.written);
@@ -181,6 +188,7 @@ told_torn {tells = tells} {e = e} {items = items} {written = written} {shelf = s
           speaks.shelf_counted;
       disk_counted = Counts-more disk_fault e.disk disk disk' told.answers (speaks.answer ∷ []) told.disk_counted
           speaks.disk_counted;
+      other = all_more AnswerFindsOther told.answers (speaks.answer ∷ []) told.other (speaks.other, tt);
       part = speaks.written.part;
       unwritten = speaks.written.rest;
       joined = speaks.written.joined;
@@ -371,10 +379,10 @@ pub speaks_line : {tells : Type 0} (files files' : FileMap) (command : Command) 
     → files ≡ files' → ((w : Which) (s : StateIn (store_kind w)) → Old w s
     → Leads (TurnIn (store_kind w) (Holds tells files) s command answer) (New w))
     → Counts shelf_fault shelf shelf' (answer ∷ []) → Counts disk_fault disk disk' (answer ∷ [])
-    → Appends before now (text_of_answer answer)
+    → AnswerFindsOther answer → Appends before now (text_of_answer answer)
     → Speaks tells files' (run.line command) before now shelf shelf' disk disk' Old New
 speaks_line {tells = tells} files files' command answer {before = before} {now = now} Old New same turn shelf_counted
-    disk_counted written =
+    disk_counted other written =
     record {
       answers = answer ∷ [];
       passes = λ w s old. let led = turn w s old in
@@ -390,6 +398,7 @@ speaks_line {tells = tells} files files' command answer {before = before} {now =
           };
       shelf_counted = shelf_counted;
       disk_counted = disk_counted;
+      other = (other, tt);
       written = subst (Appends before now) (sym (append-nil (text_of_answer answer))) written;
     }
 
@@ -398,9 +407,9 @@ pub stammers_line : {tells : Type 0} (files files' : FileMap) (command : Command
     → files ≡ files' → ((w : Which) (s : StateIn (store_kind w)) → Old w s
     → Leads (TurnIn (store_kind w) (Holds tells files) s command answer) (New w))
     → Counts shelf_fault shelf shelf' (answer ∷ []) → Counts disk_fault disk disk' (answer ∷ [])
-    → WritesPart before now (text_of_answer answer)
+    → AnswerFindsOther answer → WritesPart before now (text_of_answer answer)
     → Stammers tells files' (run.line command) before now shelf shelf' disk disk' Old New
-stammers_line {tells = tells} files files' command answer Old New same turn shelf_counted disk_counted written =
+stammers_line {tells = tells} files files' command answer Old New same turn shelf_counted disk_counted other written =
     record {
       answer = answer;
       passes = λ w s old. let led = turn w s old in
@@ -416,6 +425,7 @@ stammers_line {tells = tells} files files' command answer Old New same turn shel
           };
       shelf_counted = shelf_counted;
       disk_counted = disk_counted;
+      other = other;
       written = written;
     }
 
@@ -430,14 +440,30 @@ late_quiet : (a : Answer) (reply : List ℕ) → IsQuiet a → tally shelf_fault
 late_quiet answer.Shelf reply quiet = absurd quiet
 late_quiet _ reply quiet = refl
 
+-- and a file that is called damaged there is one that the last step called so
+late_other : (answer : machine.Answer) → AnswerFindsOther answer → AllByRecursion AnswerFindsOther (behind answer)
+late_other machine.going other = tt
+late_other machine.fault other = (tt, tt)
+late_other (machine.damaged expected found) other = (other, tt)
+late_other (machine.late_damaged expected found) other = (other, tt)
+late_other _ other = (tt, tt)
+
+first_other : (answers : List machine.Answer) (answer : machine.Answer) → answer ∷ [] ≡ answers
+    → AllByRecursion AnswerFindsOther answers → AnswerFindsOther answer
+first_other answers answer is all =
+    let one : AllByRecursion AnswerFindsOther (answer ∷ []) =
+    subst (λ (l : List machine.Answer). AllByRecursion AnswerFindsOther l) (sym is) all in one.0
+
 -- the steps after a line were made, and what is said of them written, or a part of it
 pub speaks_late : {tells : Type 0} (files : FileMap) (most : ℕ) (a : Answer) (reply : List ℕ)
     (answers : List machine.Answer) {before now : Option (List ℕ)} (shelf : ℕ) {disk disk' : ℕ} (Old New : Sight)
     → answers ≡ behind (meant a reply) → ((w : Which) (s : StateIn (store_kind w)) → Old w s
     → Leads (MakesIn (store_kind w) most s (meant a reply)) (New w))
-    → IsQuiet a → Counts disk_fault disk disk' (meant a reply ∷ []) → Appends before now (texts_of answers)
+    → IsQuiet a → Counts disk_fault disk disk' (meant a reply ∷ []) → AnswerFindsOther (meant a reply)
+    → Appends before now (texts_of answers)
     → Speaks tells files (run.late most) before now shelf shelf disk disk' Old New
-speaks_late files most a reply answers shelf {disk = disk} {disk' = disk'} Old New are makes quiet counted written =
+speaks_late files most a reply answers shelf {disk = disk} {disk' = disk'} Old New are makes quiet counted other
+    written =
     record {
       answers = answers;
       passes = λ w s old. let led = makes w s old in record {
@@ -449,6 +475,8 @@ speaks_late files most a reply answers shelf {disk = disk} {disk' = disk'} Old N
           (λ short. let none = late_quiet a reply quiet in omega (arith, none));
       disk_counted = subst (Counts disk_fault disk disk') (sym are)
           (λ short. let fewer = late_faults (meant a reply) in let all = counted short in omega (arith, fewer, all));
+      other = subst (λ (l : List machine.Answer). AllByRecursion AnswerFindsOther l) (sym are)
+          (late_other (meant a reply) other);
       written = written;
     }
 
@@ -456,9 +484,11 @@ pub stammers_late : {tells : Type 0} (files : FileMap) (most : ℕ) (a : Answer)
     (answer : machine.Answer) {before now : Option (List ℕ)} (shelf : ℕ) {disk disk' : ℕ} (Old New : Sight)
     → answer ∷ [] ≡ behind (meant a reply) → ((w : Which) (s : StateIn (store_kind w)) → Old w s
     → Leads (MakesIn (store_kind w) most s (meant a reply)) (New w))
-    → IsQuiet a → Counts disk_fault disk disk' (meant a reply ∷ []) → WritesPart before now (text_of_answer answer)
+    → IsQuiet a → Counts disk_fault disk disk' (meant a reply ∷ []) → AnswerFindsOther (meant a reply)
+    → WritesPart before now (text_of_answer answer)
     → Stammers tells files (run.late most) before now shelf shelf disk disk' Old New
-stammers_late files most a reply answer shelf {disk = disk} {disk' = disk'} Old New are makes quiet counted written =
+stammers_late files most a reply answer shelf {disk = disk} {disk' = disk'} Old New are makes quiet counted other
+    written =
     record {
       answer = answer;
       passes = λ w s old. let led = makes w s old in record {
@@ -470,6 +500,7 @@ stammers_late files most a reply answer shelf {disk = disk} {disk' = disk'} Old 
           (λ short. let none = late_quiet a reply quiet in omega (arith, none));
       disk_counted = subst (Counts disk_fault disk disk') (sym are)
           (λ short. let fewer = late_faults (meant a reply) in let all = counted short in omega (arith, fewer, all));
+      other = first_other (behind (meant a reply)) answer are (late_other (meant a reply) other);
       written = written;
     }
 

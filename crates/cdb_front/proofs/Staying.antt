@@ -1,12 +1,11 @@
 -- What an engine and a state that it stays with tell the run.
-use Rattle.std.proofs.Common.{◌≡◌, ℕ, List, [], ◌∷◌, Option, None, Some, IfSome, refl, ap, sym, subst, append-nil, arith}
+use Rattle.std.proofs.Common.{◌≡◌, ℕ, Option, None, Some, refl, ap, subst}
 use Rattle.cdb_model.specs.Commands as said
 use Rattle.cdb_model.specs.Events as machine
 use Rattle.cdb_model.specs.Events.{Event}
 use Rattle.cdb_model.specs.Grammar.{FileSource, Sentence, sentence_in}
 use Rattle.cdb_model.specs.Grammar as grammar
-use Rattle.cdb_model.specs.Images.{Base, StandsForOne}
-use Rattle.cdb_model.specs.KnownStore.{KnownState, Going, start_at}
+use Rattle.cdb_model.specs.KnownStore.{KnownState, Going}
 use Rattle.cdb_model.specs.Maps.{Content, FileMap}
 use Rattle.cdb_model.specs.Publications.{Publication}
 use Rattle.cdb_model.specs.Runs.{TurnIn, Means}
@@ -18,19 +17,15 @@ use Rattle.cdb_model.specs.declared.line.Line.{Line}
 use Rattle.cdb_crash.specs.Crash.{IsWhole, IsEither}
 use Rattle.cdb_files.specs.Disk as disk
 use Rattle.cdb_files.specs.Disk.{IsImage}
-use Rattle.cdb_files.specs.Moments.{AddsOnly}
 use Rattle.cdb_chain.specs.Versions.{Versions}
 use Rattle.cdb_publish.specs.declared.publication.Publication as publish
 use Rattle.cdb_engine.specs.Held.{Held}
-use Rattle.cdb_engine.specs.Stays.{Shows, ChangesAlike, bare_of}
-use Rattle.cdb_engine.specs.Tracks.{Works, Tracks, Leads}
+use Rattle.cdb_engine.specs.Stays.{Stays, Shows, ChangesAlike, bare_of}
+use Rattle.cdb_engine.specs.Tracks.{Origin, Works, Leads}
 use Rattle.cdb_engine.proofs.StayLaws.{stays_shows, stays_alike}
-use Rattle.cdb_front.specs.EngineStays.{StaysWith, origin_of}
-use Rattle.cdb_front.specs.EntryStore.{HasStore}
 use Rattle.cdb_front.proofs.Followed.{IsLeftBy, IsFollowed}
 use Rattle.cdb_front.specs.RunProgress.{Holds}
 use Rattle.cdb_front.specs.Sourcing.{LoadsFrom}
-use Rattle.cdb_front.proofs.Exits.{early_since}
 
 -- ---- what a disk is at the end of a run
 
@@ -82,60 +77,34 @@ load_turn k tells files l words answer is led =
     }
 
 module _ {D : Type 0} (tells : Type 0) (clock count : D → ℕ) (since : D → ℕ → FileMap → Type 0) (state : D → disk.State)
-    (base : Base) where
+    (origin : Origin) where
   -- a call without a disk leads on where it changes the engine and the state alike
   pub stays_on : (d : D) (old new : Held) (w : Which) (s : StateIn (store_kind w)) (Step : StateIn (store_kind w) → Type 0)
-      → StaysWith tells clock count since state base d old w s → (Shows old w s → Leads Step (ChangesAlike old new w s))
-      → Leads Step (StaysWith tells clock count since state base d new w)
+      → Stays tells clock count since state origin d old w s → (Shows old w s → Leads Step (ChangesAlike old new w s))
+      → Leads Step (Stays tells clock count since state origin d new w)
   stays_on d old new w s Step stays on =
-      let led = on (stays_shows tells clock count since state (origin_of base) d old w s stays) in
+      let led = on (stays_shows tells clock count since state origin d old w s stays) in
       record {
         next = led.next;
         step = led.step;
-        now = stays_alike tells clock count since state (origin_of base) d old new w s led.next stays led.now;
+        now = stays_alike tells clock count since state origin d old new w s led.next stays led.now;
       }
 
   -- or where it leaves both
   pub stays_told : (d : D) (held : Held) (w : Which) (s : StateIn (store_kind w)) (Step : StateIn (store_kind w) → Type 0)
-      → StaysWith tells clock count since state base d held w s → (Shows held w s → Step s)
-      → Leads Step (StaysWith tells clock count since state base d held w)
+      → Stays tells clock count since state origin d held w s → (Shows held w s → Step s)
+      → Leads Step (Stays tells clock count since state origin d held w)
   stays_told d held w s Step stays on =
       record {
         next = s;
-        step = on (stays_shows tells clock count since state (origin_of base) d held w s stays);
+        step = on (stays_shows tells clock count since state origin d held w s stays);
         now = stays;
       }
 
   -- ---- the beginning and the end of a run
 
-  no_halt : (list : List Publication) (work : Option publish.Publication) (halted : Option ℕ) (chain : Versions)
-      (d : disk.State) (P : ℕ → Type 0) → Works list None None work halted chain d → IfSome halted P
-  no_halt list None None chain d P works = tt
-  no_halt list None (Some faults) chain d P works = absurd works
-  no_halt list (Some work) None chain d P works = absurd works
-  no_halt list (Some work) (Some faults) chain d P works = absurd works
-
-  -- an engine that was opened stays with the list of the store
-  pub stays_opened : (old new : D) (held : Held) → HasStore tells base (clock old) (state old)
-      → Tracks held (state new) (start_at base.list)
-      → AddsOnly clock since old new (StandsForOne (base.list ∷ base.early))
-      → ((m : FileMap) → since old (clock old) m → IsImage (state old) m)
-      → StaysWith tells clock count since state base new held known (start_at base.list)
-  stays_opened old new held has tracks adds only_now = record {
-    is = record {
-      told = has.told;
-      earlier = let later = adds.later in let now = has.now in omega (arith, later, now);
-      no_fewer = omega arith;
-      begun = [];
-      has_begun = record { complete = []; list_is = sym (append-nil base.list); begun_is = refl };
-      tracks = tracks;
-      images = early_since clock since state old new base [] has.now has.store adds only_now;
-      halt = no_halt base.list held.work held.halted held.chain (state new) _ tracks.works;
-    };
-  }
-
-  -- and, whatever the disk holds, with what it has
-  pub stays_bare : (d : D) (held : Held) → StaysWith tells clock count since state base d held any (bare_of held)
+  -- whatever the disk holds, an engine stays with what it has
+  pub stays_bare : (d : D) (held : Held) → Stays tells clock count since state origin d held any (bare_of held)
   stays_bare d held = record { is = refl }
 
   -- and at the end the disk is what its state says
@@ -148,12 +117,14 @@ module _ {D : Type 0} (tells : Type 0) (clock count : D → ℕ) (since : D → 
   left_by s _ _ _ _ chain d g h works = absurd works
 
   pub stays_followed : (d : D) (held : Held) (s : KnownState)
-      → StaysWith tells clock count since state base d held known s → IsFollowed base s (since d base.moment) (state d)
+      → Stays tells clock count since state origin d held known s
+      → IsFollowed origin.store s origin.opened (clock d) (since d) (state d)
   stays_followed d held s stays =
       let f = stays.is in
       record {
         begun = f.begun;
         has_begun = f.has_begun;
         since = f.images;
+        opening = record { earlier = f.earlier; later = f.later_images };
         left = left_by s s.going s.halted held.work held.halted held.chain (state d) refl refl f.tracks.works;
       }

@@ -90,12 +90,14 @@ abbrev pub IsBare : Answer → Type 0
 IsBare (Tile count) = ⊥
 IsBare _ = Unit {0}
 
--- it has no bytes after its line, and says of no device that it failed
+-- it has no bytes after its line, and says of no device that it failed and of no file that it is damaged
 abbrev pub IsOrdinary : Answer → Type 0
 IsOrdinary (Tile count) = ⊥
 IsOrdinary Shelf = ⊥
 IsOrdinary Fault = ⊥
 IsOrdinary LateFault = ⊥
+IsOrdinary (Damaged expected found) = ⊥
+IsOrdinary (LateDamaged expected found) = ⊥
 IsOrdinary _ = Unit {0}
 
 -- the same, but that it may say that the shelf failed

@@ -1,5 +1,5 @@
 -- What a run of mode generate leaves and writes.
-use Rattle.std.specs.Prelude.{◌≡◌, ◌⊎◌, ℕ, ℤ, List, length, Option}
+use Rattle.std.specs.Prelude.{◌≡◌, ◌≢◌, ◌⊎◌, ℕ, ◌+◌, ℤ, List, [], Option, Some}
 use Rattle.std.specs.Io.KnownBytes.{Appends}
 use Rattle.cdb_model.specs.Causes.{Rose}
 use Rattle.cdb_model.specs.Images.{Base}
@@ -8,20 +8,19 @@ use Rattle.cdb_model.specs.Maps.{FileMap}
 use Rattle.cdb_model.specs.Publications.{Publication}
 use Rattle.cdb_model.specs.Stands.{Stands}
 use Rattle.cdb_model.specs.Stores.{known, any, any_store}
-use Rattle.cdb_model.specs.Transitions.{StateIn}
+use Rattle.cdb_model.specs.Transitions.{StateIn, IsFreshIn}
 use Rattle.cdb_model.specs.Text.{Text}
 use Rattle.cdb_files.specs.Disk as disk
 use Rattle.cdb_files.specs.Disk.{IsImage}
-use Rattle.cdb_manifest.specs.declared.record_.Record.{Record}
-use Rattle.cdb_publish.specs.Entries.{entries_in}
-use Rattle.cdb_engine.specs.Checks.{AreOpened}
 use Rattle.cdb_generate.specs.Generated.{Generates, Summary, summary_text}
-use Rattle.cdb_engine.specs.Filling.{StopsAfter}
+use Rattle.cdb_engine.specs.Filling.{IsDrawnFileCount, StopsAfter}
 use Rattle.cdb_engine.specs.declared.errors.PopulateError.{PopulateError}
 use Rattle.cdb_engine.specs.declared.errors.PopulateError.TheVariants as populate
+use Rattle.cdb_front.specs.Beginning.{CountsRecords, OpensBy}
 use Rattle.cdb_front.specs.Completeness.{Still}
 use Rattle.cdb_front.specs.Devices.{WritesPart}
 use Rattle.cdb_front.specs.EntryStore.{HasStore}
+use Rattle.cdb_front.specs.RunOutcome.{LeavesNoEarly}
 use Rattle.cdb_front.specs.StatusCodes.{status_line}
 use Rattle.cdb_front.specs.declared.exit_status.Limit.{Limit}
 use Rattle.cdb_front.specs.declared.exit_status.Limit.TheVariants.{Entries, Versions}
@@ -81,41 +80,68 @@ EndsMade list start count begun Left old new (Damaged expected found) = ⊥
 EndsMade list start count begun Left old new (NotAStore version place) = ⊥
 EndsMade list start count begun Left old new status = Unit {0}
 
+-- since opening ended no crash leaves an early list; where the run may have ended in opening, that is so, or nothing is
+-- begun
+abbrev pub MadeSinceOpening : Status → Base → List Publication → ℕ → ℕ → (ℕ → FileMap → Type 0) → Type 0
+MadeSinceOpening Done base begun opened now Since = LeavesNoEarly base begun opened now Since
+MadeSinceOpening (Refused limit) base begun opened now Since = LeavesNoEarly base begun opened now Since
+MadeSinceOpening status base begun opened now Since = LeavesNoEarly base begun opened now Since ⊎ (begun ≡ [])
+
 -- whatever the status, the publications begun are the first of the generator's, and each crash since the run began
--- leaves the list followed by the first of them
-pub record FillsStore (base : Base) (start count : ℕ) (Since Left : FileMap → Type 0) (old new : Option (List ℕ))
-    (status : Status) : Type 0 where
+-- leaves the list followed by the first of them, or, up to the end of opening, one of the early lists
+pub record FillsStore (base : Base) (start count opened now : ℕ) (Since : ℕ → FileMap → Type 0)
+    (Left : FileMap → Type 0) (old new : Option (List ℕ)) (status : Status) : Type 0 where
   pub begun : List Publication
-  pub generates : Generates base start count Since begun
+  pub generates : Generates base start count (Since base.moment) begun
+  pub since_opening : MadeSinceOpening status base begun opened now Since
   pub ends : EndsMade base.list start count begun Left old new status
 
--- ---- over a disk that tells
+-- ---- over any disk
 
--- the machine stops so, from the records of the store that was opened
-pub record StopsFrom (present : FileMap) (start count : ℕ) (error : PopulateError) : Type 0 where
-  pub left : FileMap
-  pub records : List Record
-  pub opened : AreOpened present left records
-  pub entry : StateIn any_store
-  pub list_is : entry.list ≡ record { versions = length records; entries = entries_in records }
+-- the machine stops so, from this state
+pub record StopsFrom (entry : StateIn any_store) (start count : ℕ) (error : PopulateError) : Type 0 where
   pub next : StateIn any_store
   pub stops : StopsAfter any entry start count error next
 
--- so it does where a limit is told, or a file as damaged
-abbrev pub SaysStop : FileMap → ℕ → ℕ → Status → Type 0
-SaysStop present start count (Refused limit) = StopsFrom present start count (error_of limit)
-SaysStop present start count (Damaged expected found) = StopsFrom present start count (populate.Damaged expected found)
-SaysStop present start count status = Unit {0}
+-- the three lines tell of the versions that there were and of so many more, and of the files of the first publications
+-- that are drawn, so many; the sum is any
+pub record TellsMade (entry : StateIn any_store) (start count : ℕ) (old new : Option (List ℕ)) : Type 0 where
+  pub files : ℕ
+  pub files_are : IsDrawnFileCount start count files
+  pub sum : ℤ
+  pub appended : Appends old new (summary_text (entry.list.versions + count) files sum)
+
+-- a file that is told as damaged has another size than the one that was wanted
+abbrev pub MadeFrom : StateIn any_store → ℕ → ℕ → Option (List ℕ) → Option (List ℕ) → Status → Type 0
+MadeFrom entry start count old new Done = TellsMade entry start count old new
+MadeFrom entry start count old new (Refused limit) = StopsFrom entry start count (error_of limit)
+MadeFrom entry start count old new (Damaged expected found) =
+    StopsFrom entry start count (populate.Damaged expected found) × (found ≢ Some expected)
+MadeFrom entry start count old new status = Unit {0}
+
+-- where the disk tells, and the status comes after opening alone
+abbrev pub FillsAsRead : Type 0 → FileMap → StateIn any_store → Status → Type 0
+FillsAsRead tells present entry Done = tells → CountsRecords present entry
+FillsAsRead tells present entry (Refused limit) = tells → CountsRecords present entry
+FillsAsRead tells present entry (Damaged expected found) = tells → CountsRecords present entry
+FillsAsRead tells present entry status = Unit {0}
 
 -- ---- the whole run
 
+-- what was written; how the machine went from a state in which nothing is pending, going or open, whatever the disk
+-- held; the disk once opening had ended, and how it went over a store
 pub record Fills {D : Type 0} (tells : Type 0) (state : D → disk.State) (clock : D → ℕ)
     (since : D → ℕ → FileMap → Type 0) (start count : ℕ) (old new : D) (written written' : Option (List ℕ))
     (status : Status) : Type 0 where
   pub says : SaysMade written written' status
-  pub stop : tells → SaysStop (state old).present start count status
+  pub entry : StateIn any_store
+  pub fresh : IsFreshIn any_store entry
+  pub begins : FillsAsRead tells (state old).present entry status
+  pub made : MadeFrom entry start count written written' status
+  pub opened : D
+  pub opens : (base : Base) → HasStore tells base (clock old) (state old) → OpensBy clock since (Some base) old opened
   pub store : (base : Base) → HasStore tells base (clock old) (state old)
-      → FillsStore base start count (since new base.moment) (IsImage (state new)) written written' status
+      → FillsStore base start count (clock opened) (clock new) (since new) (IsImage (state new)) written written' status
 
 -- ---- no device fails
 

@@ -10,7 +10,7 @@ use Rattle.cdb_model.specs.Begun.{acknowledged}
 use Rattle.cdb_model.specs.Images.{Base}
 use Rattle.cdb_model.specs.Stores.{any_store}
 use Rattle.cdb_model.specs.Transitions.{StateIn, IsFreshIn}
-use Rattle.cdb_front.specs.Beginning.{BeginsAsRead}
+use Rattle.cdb_front.specs.Beginning.{BeginsAsRead, OpensBy}
 use Rattle.cdb_front.specs.EntryStore.{IsKnown}
 use Rattle.cdb_front.specs.Failures.{EndsReading}
 use Rattle.cdb_front.specs.RunOutcome.{Outcome}
@@ -53,8 +53,10 @@ abbrev pub Knows : (v : Devices) → Life v → Option Base → Type 0
 Knows v life from = IsKnown v.disk_tells from (v.clock life.old) (v.state life.old)
 
 -- how the run went, from this store, and, whatever the disk held, from a state in which nothing is pending, going or
--- open
+-- open; and the disk once opening had ended
 pub record Goes (v : Devices) (life : Life v) (from : Option Base) : Type 0 where
+  pub opened : v.D
+  pub opens : OpensBy v.clock v.since from life.old opened
   pub start : StateIn any_store
   pub fresh : IsFreshIn any_store start
   pub outcome : Outcome v.shelf_tells
@@ -64,11 +66,12 @@ pub record Goes (v : Devices) (life : Life v) (from : Option Base) : Type 0 wher
         disk = v.disk_faults life.old;
         written = v.written life.output;
         from = from;
+        opened = v.clock opened;
         start = start;
         most = life.most;
       })
       (v.shelf_faults life.shelf') (v.disk_faults life.new) (v.left life.input) (v.left life.input')
-      (v.written life.output') (v.since life.new (v.clock life.old)) (v.state life.new) life.status
+      (v.written life.output') (v.clock life.new) (v.since life.new) (v.state life.new) life.status
   pub begins : BeginsAsRead v.disk_tells (v.state life.old).present start outcome.status
   pub reads : EndsReading outcome.status (v.input_faults life.input) (v.input_faults life.input') (v.left life.input')
       (v.failed_at life.input')

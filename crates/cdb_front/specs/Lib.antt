@@ -2,8 +2,8 @@ pub mod Devices
 pub mod Kept
 pub mod Hearing
 pub mod EntryStore
-pub mod EngineStays
 pub mod Stepping
+pub mod DamagedSizes
 pub mod Sourcing
 pub mod AnswerMeanings
 pub mod StatusCodes

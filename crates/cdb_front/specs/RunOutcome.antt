@@ -1,7 +1,7 @@
 -- How a run ended, and what it wrote.
 use Rattle.std.specs.Prelude.{◌≡◌, ◌≢◌, ◌⊎◌, ℕ, ◌<◌, ◌≤◌, ◌^◌, List, [], ◌∷◌, ◌++◌, length, Option, None, Some}
 use Rattle.std.specs.Io.KnownBytes.{Appends, Consumes, IsAtEnd}
-use Rattle.std.specs.List.{flat_map}
+use Rattle.std.specs.List.{flat_map, AllByRecursion}
 use Rattle.cdb_model.specs.Text.{Text, ended}
 use Rattle.cdb_model.specs.Maps.{Content, FileMap}
 use Rattle.cdb_model.specs.Commands as said
@@ -16,7 +16,7 @@ use Rattle.cdb_model.specs.Transitions.{StateIn}
 use Rattle.cdb_model.specs.Runs.{Item, Run, items_of}
 use Rattle.cdb_model.specs.AnswerTexts.{text_of_answer, texts_of, shelf_fault, disk_fault}
 use Rattle.cdb_model.specs.Begun.{HasBegun, acknowledged}
-use Rattle.cdb_model.specs.Images.{Base, StandsKept, StandsForOne, StandsSince}
+use Rattle.cdb_model.specs.Images.{Base, StandsFrom, StandsKept, StandsForOne, StandsSince}
 use Rattle.cdb_crash.specs.Crash.{IsClear, IsWhole, IsFaulted}
 use Rattle.cdb_files.specs.Disk as disk
 use Rattle.cdb_files.specs.Disk.{IsImage}
@@ -25,6 +25,7 @@ use Rattle.cdb_chain.specs.declared.open_error.OpenError.{OpenError}
 use Rattle.cdb_chain.specs.declared.open_error.OpenError.TheVariants as refused
 use Rattle.cdb_engine.specs.Checks.{AreOpened}
 use Rattle.cdb_engine.specs.Store.{IsNoStore}
+use Rattle.cdb_front.specs.DamagedSizes.{AnswerFindsOther}
 use Rattle.cdb_front.specs.Devices.{WritesPart}
 use Rattle.cdb_front.specs.RunProgress.{Sight, RunStart, Holds, Runs, Ordered, EndsByAnswer, ReachesLast, first_state}
 use Rattle.cdb_front.specs.StatusCodes.{status_line}
@@ -110,6 +111,8 @@ pub record Transcript (e : RunStart) (shelf disk : ℕ) (left left' written : Op
   -- no more of them say that the shelf failed, or the disk, than its count rose by
   pub shelf_counted : Counts shelf_fault e.shelf shelf answers
   pub disk_counted : Counts disk_fault e.disk disk answers
+  -- none calls a file damaged that has the size that was wanted
+  pub other : AllByRecursion AnswerFindsOther answers
   -- what was written
   pub wrote : Text
   pub appended : Appends e.written written wrote
@@ -203,23 +206,42 @@ RestsAt OutputFault s d = IsLeftAtRest s d
 RestsAt TooLong s d = IsLeftAtRest s d
 RestsAt status s d = Unit {0}
 
--- the run over a store: whatever a crash since it began may have left, and whatever it may leave now
+-- whatever a crash since opening ended may have left stands for the list followed by the first of the publications
+-- begun: the early lists may be left only before that moment
+pub record LeavesNoEarly (base : Base) (begun : List Publication) (opened now : ℕ) (Since : ℕ → FileMap → Type 0)
+    : Type 0 where
+  pub earlier : opened ≤ now
+  pub later : (m : FileMap) → Since opened m → StandsFrom base.list begun m
+
+-- so it is where the store was opened
+abbrev pub StandsSinceOpening : Status → Base → List Publication → ℕ → ℕ → (ℕ → FileMap → Type 0) → Type 0
+StandsSinceOpening Done base begun opened now Since = LeavesNoEarly base begun opened now Since
+StandsSinceOpening InputFault base begun opened now Since = LeavesNoEarly base begun opened now Since
+StandsSinceOpening OutputFault base begun opened now Since = LeavesNoEarly base begun opened now Since
+StandsSinceOpening TooLong base begun opened now Since = LeavesNoEarly base begun opened now Since
+StandsSinceOpening status base begun opened now Since = Unit {0}
+
+-- the run over a store: whatever a crash since it began, and since opening ended, may have left, and whatever it may
+-- leave now
 pub record Ended (Has : Text → Content → Type 0) (base : Base) (status : Status) (items : List Item)
-    (answers : List machine.Answer) (wrote : Text) (Since : FileMap → Type 0) (d : disk.State) : Type 0 where
+    (answers : List machine.Answer) (wrote : Text) (opened now : ℕ) (Since : ℕ → FileMap → Type 0) (d : disk.State)
+    : Type 0 where
   pub state : KnownState
   pub run : Run Has (start_at base.list) items answers state
   pub last : EndsUnwritten status known_store Has (start_at base.list) items answers state
   pub begun : List Publication
   pub has_begun : HasBegun base.list state begun
-  pub since : (m : FileMap) → Since m → StandsSince base begun m
+  pub since : (m : FileMap) → Since base.moment m → StandsSince base begun m
+  pub since_opening : StandsSinceOpening status base begun opened now Since
   pub at_exit : (m : FileMap) → IsImage d m → StandsAtExit status base begun (acknowledged begun answers wrote) m
   pub rests : RestsAt status state d
   pub of_store : IsOfStore status
 
 abbrev pub EndsFrom : (Text → Content → Type 0) → Option Base → Status → List Item → List machine.Answer → Text
-    → (FileMap → Type 0) → disk.State → Type 0
-EndsFrom Has None status items answers wrote Since d = Unit {0}
-EndsFrom Has (Some base) status items answers wrote Since d = Ended Has base status items answers wrote Since d
+    → ℕ → ℕ → (ℕ → FileMap → Type 0) → disk.State → Type 0
+EndsFrom Has None status items answers wrote opened now Since d = Unit {0}
+EndsFrom Has (Some base) status items answers wrote opened now Since d =
+    Ended Has base status items answers wrote opened now Since d
 
 -- the files that were there name a newest version, and the record of each version up to it is read
 pub record HasRecords (present : FileMap) : Type 0 where
@@ -241,11 +263,12 @@ SaysStore tells present now status = tells → HasRecords present
 
 -- what the loop left, and the line of the status that it stopped with
 pub record Outcome (tells : Type 0) (e : RunStart) (shelf faults : ℕ) (left left' written' : Option (List ℕ))
-    (Since : FileMap → Type 0) (d : disk.State) (result : Status) : Type 0 where
+    (now : ℕ) (Since : ℕ → FileMap → Type 0) (d : disk.State) (result : Status) : Type 0 where
   pub status : Status
   pub written : Option (List ℕ)
   pub transcript : Transcript e shelf faults left left' written status
-  pub run : EndsFrom (Holds tells e.files) e.from status transcript.items transcript.answers transcript.wrote Since d
+  pub run : EndsFrom (Holds tells e.files) e.from status transcript.items transcript.answers transcript.wrote e.opened now
+      Since d
   pub order : Ordered (Holds tells e.files) e.start transcript.items transcript.answers
       (EndsUnwritten status any_store (Holds tells e.files) e.start transcript.items transcript.answers)
   pub ends : EndsWith status written written' result

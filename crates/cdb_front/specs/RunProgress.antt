@@ -1,6 +1,7 @@
 -- How far a run has come: what was read, answered and written.
 use Rattle.std.specs.Prelude.{◌≡◌, ◌≢◌, ℕ, List, [], ◌∷◌, ◌++◌, Option, None, Some}
 use Rattle.std.specs.Io.KnownBytes.{Appends}
+use Rattle.std.specs.List.{AllByRecursion}
 use Rattle.cdb_model.specs.Text.{Text}
 use Rattle.cdb_model.specs.Maps.{Content, FileMap}
 use Rattle.cdb_model.specs.Commands as said
@@ -13,7 +14,8 @@ use Rattle.cdb_model.specs.KnownStore.{KnownState, start_at}
 use Rattle.cdb_model.specs.Runs.{Item, Run, RunIn, PassesIn, items_of}
 use Rattle.cdb_model.specs.AnswerTexts.{text_of_answer, texts_of, shelf_fault, disk_fault}
 use Rattle.cdb_model.specs.Images.{Base}
-use Rattle.cdb_engine.specs.Tracks.{Leads}
+use Rattle.cdb_engine.specs.Tracks.{Origin, Leads}
+use Rattle.cdb_front.specs.DamagedSizes.{AnswerFindsOther}
 use Rattle.cdb_front.specs.Kept.{kept_of}
 use Rattle.cdb_front.specs.Stepping.{Counts}
 use Rattle.cdb_front.specs.declared.fed.Fed.{Fed}
@@ -24,14 +26,15 @@ abbrev pub Sight : Type 1
 Sight = (w : Which) → StateIn (store_kind w) → Type 0
 
 -- what a run began with: the files of the shelf, the counts of failures of shelf and disk, what was written before, the
--- store on the disk, where that is known, the state that the machine had, whatever the disk holds, and how many steps
--- follow a line
+-- store on the disk, where that is known, the moment at which opening ended, the state that the machine had, whatever
+-- the disk holds, and how many steps follow a line
 pub record RunStart : Type 0 where
   pub files : FileMap
   pub shelf : ℕ
   pub disk : ℕ
   pub written : Option (List ℕ)
   pub from : Option Base
+  pub opened : ℕ
   pub start : StateIn any_store
   pub most : ℕ
 
@@ -39,6 +42,10 @@ pub record RunStart : Type 0 where
 abbrev pub base_of : Option Base → Base
 base_of None = record { list = []; early = []; moment = 0 }
 base_of (Some base) = base
+
+-- the store and the moment at which opening ended; which calls of the disk had failed isn't asked
+abbrev pub origin_of : RunStart → Origin
+origin_of e = record { store = base_of e.from; opened = e.opened; faults = 0 }
 
 -- the state that the machine began with: that of the list of the store, or the one whatever the disk holds
 abbrev pub first_state : RunStart → (w : Which) → StateIn (store_kind w)
@@ -87,6 +94,7 @@ pub record Told (tells : Type 0) (e : RunStart) (items : List Item) (written : O
   pub order : Ordered (Holds tells e.files) e.start items answers (Now any)
   pub shelf_counted : Counts shelf_fault e.shelf shelf answers
   pub disk_counted : Counts disk_fault e.disk disk answers
+  pub other : AllByRecursion AnswerFindsOther answers
   pub appended : Appends e.written written (texts_of answers)
 
 -- the same, but for a part of the last answer, which the last item gave
@@ -100,6 +108,7 @@ pub record Torn (tells : Type 0) (e : RunStart) (items : List Item) (written : O
       (ByAnswer tells e items (whole ++ answer ∷ []) Now any)
   pub shelf_counted : Counts shelf_fault e.shelf shelf (whole ++ answer ∷ [])
   pub disk_counted : Counts disk_fault e.disk disk (whole ++ answer ∷ [])
+  pub other : AllByRecursion AnswerFindsOther (whole ++ answer ∷ [])
   pub part : Text
   pub unwritten : Text
   pub joined : text_of_answer answer ≡ part ++ unwritten

@@ -9,9 +9,9 @@ use cdb_model::Line;
 use std::alloc::Global;
 
 impl<D: Disk> StoreCalls<D> for Engine {
-    ghost use Rattle.cdb_front.specs.EngineStays.{StaysWith};
+    ghost use Rattle.cdb_engine.specs.Stays.{Stays};
 
-    ghost stays = { λ engine disk base w s. StaysWith D.tells D.clock D.fault_count D.since D.state base
+    ghost stays = { λ engine disk origin w s. Stays D.tells D.clock D.fault_count D.since D.state origin
         disk engine w s };
 
     ghost bytes = { λ engine. engine.reply };

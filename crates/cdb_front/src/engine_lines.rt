@@ -6,6 +6,7 @@ ghost use Rattle.cdb_model.specs.Transitions.{StateIn, PublishLineIn, OpenLineIn
 ghost use Rattle.cdb_engine.specs.Stays.{Stays, Shows, ChangesAlike};
 ghost use Rattle.cdb_engine.specs.Tracks.{Origin, Leads};
 ghost use Rattle.cdb_front.specs.AnswerMeanings.{meant, HasLength, IsOrdinary, IsQuiet};
+ghost use Rattle.cdb_front.specs.DamagedSizes.{AnswerFindsOther};
 ghost use Rattle.cdb_front.specs.Stepping.{Counts};
 
 use crate::answers::Answer;
@@ -58,6 +59,7 @@ pub fn ask<D: Disk>(engine: &mut Engine, id: u32, tile: &Tile, disk: &mut D) -> 
     ensures later { D.fault_count disk.old ≤ D.fault_count disk.new }
     ensures counted { Counts disk_fault (D.fault_count disk.old) (D.fault_count disk.new)
         (meant result engine.new.reply ∷ []) }
+    ensures finds { AnswerFindsOther (meant result engine.new.reply) }
 {
     tile_answer(engine.tile(id, tile, disk))
 }

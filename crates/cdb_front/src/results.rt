@@ -1,9 +1,11 @@
 //! Which answer each result of the engine is.
-ghost use Rattle.std.specs.Prelude.{◌≡◌, ◌≤◌, ℕ, List, ◌∷◌, [], IfOk, OnErr, Err};
+ghost use Rattle.std.specs.Prelude.{◌≡◌, ◌≤◌, ℕ, List, ◌∷◌, [], IfOk, IfErr, OnErr, Err};
 ghost use Rattle.cdb_model.specs.AnswerTexts.{shelf_fault, disk_fault};
 ghost use Rattle.cdb_model.specs.Causes.{Rose};
+ghost use Rattle.cdb_engine.specs.OtherSizes.{TileFindsOther};
 ghost use Rattle.cdb_engine.specs.StoreAnswers.{ready_answer, publish_answer, session_answer, close_answer, tile_answer, HasBytes};
 ghost use Rattle.cdb_front.specs.AnswerMeanings.{meant, HasLength, IsOrdinary, IsOfShelf, IsQuiet};
+ghost use Rattle.cdb_front.specs.DamagedSizes.{AnswerFindsOther};
 ghost use Rattle.cdb_front.specs.Sourcing.{inline_answer, load_answer};
 ghost use Rattle.cdb_front.specs.Stepping.{Counts};
 
@@ -113,6 +115,7 @@ pub fn tile_answer(outcome: Result<Reply, TileError>) -> Answer
     ensures counted { (before now : ℕ) (reply : List ℕ) → before ≤ now
         → (outcome ≡ Err TileError.Fault → Rose before now)
         → Counts disk_fault before now (meant result reply ∷ []) }
+    ensures finds { (reply : List ℕ) → IfErr outcome TileFindsOther → AnswerFindsOther (meant result reply) }
 {
     match outcome {
         Ok(Reply::Bytes(length)) => Answer::Tile(length),

@@ -3,7 +3,7 @@ ghost use Rattle.std.specs.Io.KnownBytes.{Consumes, IsAtEnd};
 ghost use Rattle.cdb_model.specs.Causes.{Rose};
 ghost use Rattle.cdb_front.specs.Failures.{WritesOnce, ReadsOnce};
 ghost use Rattle.cdb_front.specs.inside.Failures.{WritesInTurn, ReadsInTurn};
-ghost use Rattle.cdb_front.specs.RunProgress.{RunStart, base_of, Told};
+ghost use Rattle.cdb_front.specs.RunProgress.{RunStart, origin_of, Told};
 ghost use Rattle.cdb_front.specs.RunOutcome.{StopsScript, WasOpened};
 ghost use Rattle.cdb_front.specs.inside.RunReading.{Reading, TakesTurn, TakesSome, StopsOpened};
 
@@ -37,10 +37,10 @@ fn take_end<D: Disk, H: Shelf, E: StoreCalls<D>, O: Output>(
     ensures stops { (e : RunStart) (left now end : Option (List ℕ)) (taken : ℕ) → H.files shelf.old ≡ e.files
         → e.most ≡ most → taken < 2 ^ 32
         → Reading H.tells e left now (O.written output.old) (H.fault_count shelf.old) (D.fault_count disk.old)
-        (E.stays engine.old disk.old (base_of e.from)) maker.now taken
+        (E.stays engine.old disk.old (origin_of e)) maker.now taken
         → Consumes now end [] → IsAtEnd end
         → StopsScript H.tells e (H.fault_count shelf.new) (D.fault_count disk.new) left end (O.written output.new)
-        (E.stays engine.new disk.new (base_of e.from)) result }
+        (E.stays engine.new disk.new (origin_of e)) result }
     ensures status { result ≢ Status.InputFault }
     ensures opened { WasOpened result }
     ensures files { H.files shelf.new ≡ H.files shelf.old }
@@ -73,9 +73,9 @@ fn take_turn<D: Disk, H: Shelf, E: StoreCalls<D>, I: Input, O: Output>(
     ensures turn { (e : RunStart) (left : Option (List ℕ)) (taken : ℕ) → H.files shelf.old ≡ e.files → e.most ≡ most
         → taken < 2 ^ 32 → taken + length into.old ≤ 2 ^ 32 → length into.old ≤ 4096
         → Reading H.tells e left (I.left input.old) (O.written output.old) (H.fault_count shelf.old)
-        (D.fault_count disk.old) (E.stays engine.old disk.old (base_of e.from)) maker.old taken
+        (D.fault_count disk.old) (E.stays engine.old disk.old (origin_of e)) maker.old taken
         → TakesTurn H.tells e result (H.fault_count shelf.new) (D.fault_count disk.new) left (I.left input.new)
-        (O.written output.new) (E.stays engine.new disk.new (base_of e.from)) maker.new taken }
+        (O.written output.new) (E.stays engine.new disk.new (origin_of e)) maker.new taken }
     ensures count { TakesSome result (length into.old) }
     ensures input_later { I.fault_count input.old ≤ I.fault_count input.new }
     ensures input_failed { result ≡ Turned.Stopped Status.InputFault
@@ -127,9 +127,9 @@ pub fn run_script<D: Disk, H: Shelf, E: StoreCalls<D>, I: Input, O: Output>(
 ) -> Status
     ensures stops { (e : RunStart) → H.files shelf.old ≡ e.files → e.most ≡ most
         → Told H.tells e [] (O.written output.old) (H.fault_count shelf.old) (D.fault_count disk.old)
-        (E.stays engine.old disk.old (base_of e.from))
+        (E.stays engine.old disk.old (origin_of e))
         → StopsScript H.tells e (H.fault_count shelf.new) (D.fault_count disk.new) (I.left input.old) (I.left input.new)
-        (O.written output.new) (E.stays engine.new disk.new (base_of e.from)) result }
+        (O.written output.new) (E.stays engine.new disk.new (origin_of e)) result }
     ensures input_later { I.fault_count input.old ≤ I.fault_count input.new }
     ensures input_failed { result ≡ Status.InputFault → Rose (I.fault_count input.old) (I.fault_count input.new) }
     ensures input_stops { result ≡ Status.InputFault → I.left input.new ≡ I.failed_at input.new }

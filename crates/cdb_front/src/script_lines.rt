@@ -4,16 +4,16 @@ ghost use Rattle.cdb_model.specs.Causes.{Rose};
 ghost use Rattle.cdb_model.specs.Commands as said;
 ghost use Rattle.cdb_model.specs.Commands.{Command};
 ghost use Rattle.cdb_model.specs.Grammar.{sentence_in};
-ghost use Rattle.cdb_model.specs.Images.{Base};
 ghost use Rattle.cdb_model.specs.Runs.{Item, TurnIn, due};
 ghost use Rattle.cdb_model.specs.Runs.{line as an_item, late as trail_item};
 ghost use Rattle.cdb_model.specs.Stores.{Which, store_kind};
 ghost use Rattle.cdb_model.specs.Transitions.{StateIn};
 ghost use Rattle.cdb_front.specs.AnswerMeanings.{meant, HasLength};
-ghost use Rattle.cdb_engine.specs.Tracks.{Leads};
+ghost use Rattle.cdb_engine.specs.Tracks.{Origin, Leads};
+ghost use Rattle.cdb_front.specs.DamagedSizes.{AnswerFindsOther};
 ghost use Rattle.cdb_front.specs.Failures.{FedOnce};
 ghost use Rattle.cdb_front.specs.Hearing.{IsEvent, IsAnswered, SaysAsked};
-ghost use Rattle.cdb_front.specs.RunProgress.{RunStart, Holds, base_of, Told, RunSoFar, TakesLine, TakesPiece};
+ghost use Rattle.cdb_front.specs.RunProgress.{RunStart, Holds, origin_of, Told, RunSoFar, TakesLine, TakesPiece};
 ghost use Rattle.cdb_front.specs.inside.RunProgress.{TellsFed, SpeaksFed, TakesByte};
 ghost use Rattle.cdb_front.specs.Stepping.{Counts};
 
@@ -39,10 +39,10 @@ fn answer_line<D: Disk, H: Shelf, E: StoreCalls<D>>(
     line: Line,
 ) -> Answer
     requires answered { IsEvent line }
-    ensures turn { (w : Which) (base : Base) (s : StateIn (store_kind w))
-        → E.stays engine.old disk.old base w s
+    ensures turn { (w : Which) (origin : Origin) (s : StateIn (store_kind w))
+        → E.stays engine.old disk.old origin w s
         → Leads (TurnIn (store_kind w) (Holds H.tells (H.files shelf.old)) s (said.said (sentence_in line))
-        (meant result (E.bytes engine.new))) (E.stays engine.new disk.new base w) }
+        (meant result (E.bytes engine.new))) (E.stays engine.new disk.new origin w) }
     ensures length { HasLength result (E.bytes engine.new) }
     ensures files { H.files shelf.new ≡ H.files shelf.old }
     ensures shelf_later { H.fault_count shelf.old ≤ H.fault_count shelf.new }
@@ -51,6 +51,7 @@ fn answer_line<D: Disk, H: Shelf, E: StoreCalls<D>>(
     ensures disk_later { D.fault_count disk.old ≤ D.fault_count disk.new }
     ensures disk_counted { Counts disk_fault (D.fault_count disk.old) (D.fault_count disk.new)
         (meant result (E.bytes engine.new) ∷ []) }
+    ensures finds { AnswerFindsOther (meant result (E.bytes engine.new)) }
 {
     match line {
         Line::Step(most) => hasten(engine, disk, most),
@@ -68,10 +69,10 @@ fn answer<D: Disk, H: Shelf, E: StoreCalls<D>>(
     asked: Asked,
 ) -> Answer
     requires answered { IsAnswered asked }
-    ensures turn { (w : Which) (base : Base) (s : StateIn (store_kind w)) (command : Command) → SaysAsked asked command
-        → E.stays engine.old disk.old base w s
+    ensures turn { (w : Which) (origin : Origin) (s : StateIn (store_kind w)) (command : Command) → SaysAsked asked command
+        → E.stays engine.old disk.old origin w s
         → Leads (TurnIn (store_kind w) (Holds H.tells (H.files shelf.old)) s command (meant result (E.bytes engine.new)))
-        (E.stays engine.new disk.new base w) }
+        (E.stays engine.new disk.new origin w) }
     ensures length { HasLength result (E.bytes engine.new) }
     ensures files { H.files shelf.new ≡ H.files shelf.old }
     ensures shelf_later { H.fault_count shelf.old ≤ H.fault_count shelf.new }
@@ -80,6 +81,7 @@ fn answer<D: Disk, H: Shelf, E: StoreCalls<D>>(
     ensures disk_later { D.fault_count disk.old ≤ D.fault_count disk.new }
     ensures disk_counted { Counts disk_fault (D.fault_count disk.old) (D.fault_count disk.new)
         (meant result (E.bytes engine.new) ∷ []) }
+    ensures finds { AnswerFindsOther (meant result (E.bytes engine.new)) }
 {
     match asked {
         Asked::Line(line) => answer_line(alloc, engine, disk, shelf, line),
@@ -114,8 +116,8 @@ fn reply<D: Disk, H: Shelf, E: StoreCalls<D>, O: Output>(
     ensures spoken { (e : RunStart) (command : Command) → SaysAsked asked command → H.files shelf.old ≡ e.files
         → SpeaksFed H.tells e.files result (an_item command) (O.written output.old) (O.written output.new)
         (H.fault_count shelf.old) (H.fault_count shelf.new) (D.fault_count disk.old) (D.fault_count disk.new)
-        (E.stays engine.old disk.old (base_of e.from))
-        (E.stays engine.new disk.new (base_of e.from)) }
+        (E.stays engine.old disk.old (origin_of e))
+        (E.stays engine.new disk.new (origin_of e)) }
     ensures files { H.files shelf.new ≡ H.files shelf.old }
     ensures shelf_later { H.fault_count shelf.old ≤ H.fault_count shelf.new }
     ensures disk_later { D.fault_count disk.old ≤ D.fault_count disk.new }
@@ -141,8 +143,8 @@ fn trail<D: Disk, H: Shelf, E: StoreCalls<D>, O: Output>(
     ensures spoken { (e : RunStart)
         → SpeaksFed H.tells e.files result (trail_item most) (O.written output.old) (O.written output.new)
         (H.fault_count shelf.now) (H.fault_count shelf.now) (D.fault_count disk.old) (D.fault_count disk.new)
-        (E.stays engine.old disk.old (base_of e.from))
-        (E.stays engine.new disk.new (base_of e.from)) }
+        (E.stays engine.old disk.old (origin_of e))
+        (E.stays engine.new disk.new (origin_of e)) }
     ensures disk_later { D.fault_count disk.old ≤ D.fault_count disk.new }
     ensures later { O.fault_count output.old ≤ O.fault_count output.new }
     ensures failed { result ≡ Fed.Failed → Rose (O.fault_count output.old) (O.fault_count output.new) }
@@ -171,10 +173,10 @@ fn answer_event<D: Disk, H: Shelf, E: StoreCalls<D>, O: Output>(
     ensures told { (e : RunStart) (items : List Item) (command : Command) → SaysAsked asked command
         → H.files shelf.old ≡ e.files → e.most ≡ most
         → Told H.tells e items (O.written output.old) (H.fault_count shelf.old) (D.fault_count disk.old)
-        (E.stays engine.old disk.old (base_of e.from))
+        (E.stays engine.old disk.old (origin_of e))
         → TellsFed H.tells e result items (an_item command ∷ trail_item (due e.most command) ∷ [])
         (O.written output.new) (H.fault_count shelf.new) (D.fault_count disk.new)
-        (E.stays engine.new disk.new (base_of e.from)) }
+        (E.stays engine.new disk.new (origin_of e)) }
     ensures files { H.files shelf.new ≡ H.files shelf.old }
     ensures shelf_later { H.fault_count shelf.old ≤ H.fault_count shelf.new }
     ensures disk_later { D.fault_count disk.old ≤ D.fault_count disk.new }
@@ -202,9 +204,9 @@ pub fn take_line<D: Disk, H: Shelf, E: StoreCalls<D>, O: Output>(
 ) -> Fed
     ensures line { (e : RunStart) (read : List ℕ) → H.files shelf.old ≡ e.files → e.most ≡ most
         → RunSoFar H.tells e read (O.written output.old) (H.fault_count shelf.old) (D.fault_count disk.old)
-        (E.stays engine.old disk.old (base_of e.from)) maker.now
+        (E.stays engine.old disk.old (origin_of e)) maker.now
         → TakesLine H.tells e result read (O.written output.new) (H.fault_count shelf.new) (D.fault_count disk.new)
-        (E.stays engine.new disk.new (base_of e.from)) }
+        (E.stays engine.new disk.new (origin_of e)) }
     ensures files { H.files shelf.new ≡ H.files shelf.old }
     ensures shelf_later { H.fault_count shelf.old ≤ H.fault_count shelf.new }
     ensures disk_later { D.fault_count disk.old ≤ D.fault_count disk.new }
@@ -232,10 +234,10 @@ fn take_byte<D: Disk, H: Shelf, E: StoreCalls<D>, O: Output>(
 ) -> Fed
     ensures byte { (e : RunStart) (read : List ℕ) → H.files shelf.old ≡ e.files → e.most ≡ most
         → RunSoFar H.tells e read (O.written output.old) (H.fault_count shelf.old) (D.fault_count disk.old)
-        (E.stays engine.old disk.old (base_of e.from)) maker.old
+        (E.stays engine.old disk.old (origin_of e)) maker.old
         → TakesByte H.tells e result read byte (O.written output.new) (H.fault_count shelf.new)
         (D.fault_count disk.new)
-        (E.stays engine.new disk.new (base_of e.from)) maker.new }
+        (E.stays engine.new disk.new (origin_of e)) maker.new }
     ensures feed { result ≢ Fed.More → byte ≡ 10 }
     ensures files { H.files shelf.new ≡ H.files shelf.old }
     ensures shelf_later { H.fault_count shelf.old ≤ H.fault_count shelf.new }
@@ -271,10 +273,10 @@ pub fn take_piece<D: Disk, H: Shelf, E: StoreCalls<D>, O: Output>(
 ) -> Fed
     ensures piece { (e : RunStart) (read : List ℕ) → H.files shelf.old ≡ e.files → e.most ≡ most
         → RunSoFar H.tells e read (O.written output.old) (H.fault_count shelf.old) (D.fault_count disk.old)
-        (E.stays engine.old disk.old (base_of e.from)) maker.old
+        (E.stays engine.old disk.old (origin_of e)) maker.old
         → TakesPiece H.tells e result read piece.now (O.written output.new) (H.fault_count shelf.new)
         (D.fault_count disk.new)
-        (E.stays engine.new disk.new (base_of e.from)) maker.new }
+        (E.stays engine.new disk.new (origin_of e)) maker.new }
     ensures files { H.files shelf.new ≡ H.files shelf.old }
     ensures shelf_later { H.fault_count shelf.old ≤ H.fault_count shelf.new }
     ensures disk_later { D.fault_count disk.old ≤ D.fault_count disk.new }

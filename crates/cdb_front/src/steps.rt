@@ -1,13 +1,14 @@
 //! Steps of the publication that is going.
 ghost use Rattle.std.specs.Option.{option_map};
-ghost use Rattle.std.specs.Prelude.{◌≡◌, ◌≤◌, ℕ, List, ◌∷◌, [], IfSome};
+ghost use Rattle.std.specs.Prelude.{◌≡◌, ◌≤◌, ℕ, List, ◌∷◌, [], IfSome, IfErr};
 ghost use Rattle.cdb_model.specs.AnswerTexts.{disk_fault};
-ghost use Rattle.cdb_model.specs.Images.{Base};
 ghost use Rattle.cdb_model.specs.Runs.{behind};
 ghost use Rattle.cdb_model.specs.Stores.{Which, store_kind};
 ghost use Rattle.cdb_model.specs.Transitions.{StateIn, MakesIn, StepLineIn, StepAllLineIn};
 ghost use Rattle.cdb_front.specs.AnswerMeanings.{meant, said_late, IsBare, IsQuiet};
-ghost use Rattle.cdb_engine.specs.Tracks.{Leads};
+ghost use Rattle.cdb_front.specs.DamagedSizes.{AnswerFindsOther};
+ghost use Rattle.cdb_engine.specs.Tracks.{Origin, Leads};
+ghost use Rattle.cdb_engine.specs.OtherSizes.{StepFindsOther};
 ghost use Rattle.cdb_engine.specs.StoreAnswers.{AdvanceCause};
 ghost use Rattle.cdb_front.specs.Stepping.{Counts};
 ghost use Rattle.cdb_front.specs.inside.Stepping.{step_end};
@@ -24,6 +25,8 @@ fn after_step(outcome: Result<Progress, AdvanceError>) -> Option<Answer>
     ensures quiet { IfSome result IsQuiet }
     ensures counted { (before now : ℕ) (reply : List ℕ) → before ≤ now → AdvanceCause outcome before now
         → IfSome result (λ answer. Counts disk_fault before now (meant answer reply ∷ [])) }
+    ensures finds { (reply : List ℕ) → IfErr outcome StepFindsOther
+        → IfSome result (λ answer. AnswerFindsOther (meant answer reply)) }
 {
     match outcome {
         Ok(Progress::Going) => None,
@@ -38,14 +41,15 @@ fn after_step(outcome: Result<Progress, AdvanceError>) -> Option<Answer>
 /// Makes so many steps, or as many as are left, and answers what the last one that was made says: that
 /// the publication goes on where none says otherwise.
 pub fn make_steps<D: Disk, E: StoreCalls<D>>(engine: &mut E, disk: &mut D, most: u32) -> Answer
-    ensures makes { (w : Which) (base : Base) (s : StateIn (store_kind w)) → E.stays engine.old disk.old base w s
-        → Leads (MakesIn (store_kind w) most s (meant result (E.bytes engine.new))) (E.stays engine.new disk.new base w) }
+    ensures makes { (w : Which) (origin : Origin) (s : StateIn (store_kind w)) → E.stays engine.old disk.old origin w s
+        → Leads (MakesIn (store_kind w) most s (meant result (E.bytes engine.new))) (E.stays engine.new disk.new origin w) }
     ensures reply { E.bytes engine.new ≡ E.bytes engine.old }
     ensures bare { IsBare result }
     ensures quiet { IsQuiet result }
     ensures later { D.fault_count disk.old ≤ D.fault_count disk.new }
     ensures counted { Counts disk_fault (D.fault_count disk.old) (D.fault_count disk.new)
         (meant result (E.bytes engine.new) ∷ []) }
+    ensures finds { AnswerFindsOther (meant result (E.bytes engine.new)) }
 {
     for _ in 0..most {
         match after_step(engine.step(disk)) {
@@ -58,14 +62,15 @@ pub fn make_steps<D: Disk, E: StoreCalls<D>>(engine: &mut E, disk: &mut D, most:
 
 /// Answers a line that asks for so many steps.
 pub fn hasten<D: Disk, E: StoreCalls<D>>(engine: &mut E, disk: &mut D, most: u32) -> Answer
-    ensures hastens { (w : Which) (base : Base) (s : StateIn (store_kind w)) → E.stays engine.old disk.old base w s
+    ensures hastens { (w : Which) (origin : Origin) (s : StateIn (store_kind w)) → E.stays engine.old disk.old origin w s
         → Leads (StepLineIn (store_kind w) s most (meant result (E.bytes engine.new)))
-        (E.stays engine.new disk.new base w) }
+        (E.stays engine.new disk.new origin w) }
     ensures bare { IsBare result }
     ensures quiet { IsQuiet result }
     ensures later { D.fault_count disk.old ≤ D.fault_count disk.new }
     ensures counted { Counts disk_fault (D.fault_count disk.old) (D.fault_count disk.new)
         (meant result (E.bytes engine.new) ∷ []) }
+    ensures finds { AnswerFindsOther (meant result (E.bytes engine.new)) }
 {
     if engine.halted() {
         return Answer::Halted;
@@ -81,13 +86,14 @@ pub fn hasten<D: Disk, E: StoreCalls<D>>(engine: &mut E, disk: &mut D, most: u32
 
 /// Answers a line that asks for all steps that are left.
 pub fn complete<D: Disk, E: StoreCalls<D>>(engine: &mut E, disk: &mut D) -> Answer
-    ensures completes { (w : Which) (base : Base) (s : StateIn (store_kind w)) → E.stays engine.old disk.old base w s
-        → Leads (StepAllLineIn (store_kind w) s (meant result (E.bytes engine.new))) (E.stays engine.new disk.new base w) }
+    ensures completes { (w : Which) (origin : Origin) (s : StateIn (store_kind w)) → E.stays engine.old disk.old origin w s
+        → Leads (StepAllLineIn (store_kind w) s (meant result (E.bytes engine.new))) (E.stays engine.new disk.new origin w) }
     ensures bare { IsBare result }
     ensures quiet { IsQuiet result }
     ensures later { D.fault_count disk.old ≤ D.fault_count disk.new }
     ensures counted { Counts disk_fault (D.fault_count disk.old) (D.fault_count disk.new)
         (meant result (E.bytes engine.new) ∷ []) }
+    ensures finds { AnswerFindsOther (meant result (E.bytes engine.new)) }
 {
     if engine.halted() {
         return Answer::Halted;

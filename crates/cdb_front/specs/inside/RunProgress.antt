@@ -1,6 +1,7 @@
 -- Inside the crate: how far a run has come: what was read, answered and written.
 use Rattle.std.specs.Prelude.{◌≡◌, ℕ, List, [], ◌∷◌, ◌++◌, Option}
 use Rattle.std.specs.Io.KnownBytes.{Appends}
+use Rattle.std.specs.List.{AllByRecursion}
 use Rattle.cdb_model.specs.Text.{Text}
 use Rattle.cdb_model.specs.Maps.{FileMap}
 use Rattle.cdb_model.specs.Events as machine
@@ -8,6 +9,7 @@ use Rattle.cdb_model.specs.Stores.{Which, store_kind}
 use Rattle.cdb_model.specs.Transitions.{StateIn}
 use Rattle.cdb_model.specs.Runs.{Item, PassesIn}
 use Rattle.cdb_model.specs.AnswerTexts.{text_of_answer, texts_of, shelf_fault, disk_fault}
+use Rattle.cdb_front.specs.DamagedSizes.{AnswerFindsOther}
 use Rattle.cdb_front.specs.Devices.{WritesPart}
 use Rattle.cdb_engine.specs.Tracks.{Leads}
 use Rattle.cdb_front.specs.Stepping.{Counts}
@@ -23,6 +25,7 @@ pub record Speaks (tells : Type 0) (files : FileMap) (item : Item) (before now :
       → Leads (PassesIn (store_kind w) (Holds tells files) s item answers) (New w)
   pub shelf_counted : Counts shelf_fault shelf shelf' answers
   pub disk_counted : Counts disk_fault disk disk' answers
+  pub other : AllByRecursion AnswerFindsOther answers
   pub written : Appends before now (texts_of answers)
 
 pub record Stammers (tells : Type 0) (files : FileMap) (item : Item) (before now : Option (List ℕ))
@@ -32,6 +35,7 @@ pub record Stammers (tells : Type 0) (files : FileMap) (item : Item) (before now
       → Leads (PassesIn (store_kind w) (Holds tells files) s item (answer ∷ [])) (New w)
   pub shelf_counted : Counts shelf_fault shelf shelf' (answer ∷ [])
   pub disk_counted : Counts disk_fault disk disk' (answer ∷ [])
+  pub other : AnswerFindsOther answer
   pub written : WritesPart before now (text_of_answer answer)
 
 abbrev pub SpeaksFed : Type 0 → FileMap → Fed → Item → Option (List ℕ) → Option (List ℕ) → ℕ → ℕ → ℕ → ℕ → Sight

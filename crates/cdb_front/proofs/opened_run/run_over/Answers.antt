@@ -1,14 +1,14 @@
-use Rattle.std.proofs.Common.{None, refl}
+use Rattle.std.proofs.Common.{None, refl, arith}
 use Rattle.cdb_model.specs.Images.{Base}
 use Rattle.cdb_model.specs.KnownStore.{KnownState}
 use Rattle.cdb_model.specs.Stores.{known}
-use Rattle.cdb_engine.specs.Stays.{bare_of}
-use Rattle.cdb_front.specs.EngineStays.{StaysWith}
+use Rattle.cdb_engine.specs.Stays.{Stays, bare_of}
+use Rattle.cdb_engine.specs.Tracks.{Origin}
 use Rattle.cdb_front.specs.RunProgress.{RunStart, Holds, base_of}
-use Rattle.cdb_front.proofs.Exits.{ended, opens, told_begins, told_shut, closed, whole_outcome, nothing_yet, fresh_yet, Shut}
+use Rattle.cdb_front.proofs.Exits.{ended, starts, opens_by, told_begins, told_shut, closed, whole_outcome, nothing_yet, fresh_yet, Shut}
 use Rattle.cdb_front.proofs.InTime.{in_time, quits}
 use Rattle.cdb_front.proofs.RunEnds.{stops_closed, begins_read, begins_shut, ends_reading, reads_none, says_store, opened_says, opened_is_one, reads_whole, unopened_of_store, unopened_says}
-use Rattle.cdb_front.proofs.Staying.{stays_opened, stays_bare, stays_followed}
+use Rattle.cdb_front.proofs.Staying.{stays_bare, stays_followed}
 use Rattle.cdb_front.proofs.opened_run.run_over.Goals as goal
 
 pub returns-in-Ok-clause-outcome : goal.returns-in-Ok-clause-outcome
@@ -20,36 +20,37 @@ returns-in-Ok-clause-outcome g c = λ from knows.
       disk = g.D.Disk.fault_count c.args.disk.now;
       written = g.O.Output.written c.args.output.now;
       from = from;
+      opened = g.D.Disk.clock c.open.new.disk;
       start = start;
       most = c.args.most;
     } in
-    let First = λ (base : Base). StaysWith g.D.Disk.tells g.D.Disk.clock g.D.Disk.fault_count g.D.Disk.since
-    g.D.Disk.state base c.open.new.disk c.in-Ok.engine in
-    let Last = λ (base : Base). StaysWith g.D.Disk.tells g.D.Disk.clock g.D.Disk.fault_count g.D.Disk.since
-    g.D.Disk.state base c.run_script-status.new.disk c.run_script-status.new.engine in
+    let origin : Base → Origin = λ base. record { store = base; opened = e.opened; faults = 0 } in
+    let First = λ (base : Base). Stays g.D.Disk.tells g.D.Disk.clock g.D.Disk.fault_count g.D.Disk.since
+    g.D.Disk.state (origin base) c.open.new.disk c.in-Ok.engine in
+    let Last = λ (base : Base). Stays g.D.Disk.tells g.D.Disk.clock g.D.Disk.fault_count g.D.Disk.since
+    g.D.Disk.state (origin base) c.run_script-status.new.disk c.run_script-status.new.engine in
     record {
+      opened = c.open.new.disk;
+      opens = opens_by g.D.Disk.tells g.D.Disk.clock g.D.Disk.since g.D.Disk.state c.args.disk.now c.open.new.disk from
+          knows c.open.ensures.moments;
       start = start;
       fresh = c.in-Ok.ensures.fresh;
-      outcome = whole_outcome c.run_script-status.result c.end.result
-          (g.D.Disk.since c.run_script-status.new.disk (g.D.Disk.clock c.args.disk.now))
-          (g.D.Disk.state c.run_script-status.new.disk)
-          (λ items answers wrote runs. ended (Holds g.H.Shelf.tells e.files) g.D.Disk.tells from
-          c.run_script-status.result items answers wrote (g.D.Disk.clock c.args.disk.now)
-          (g.D.Disk.since c.run_script-status.new.disk) (g.D.Disk.state c.args.disk.now)
+      outcome = whole_outcome c.run_script-status.result c.end.result (g.D.Disk.clock c.run_script-status.new.disk)
+          (g.D.Disk.since c.run_script-status.new.disk) (g.D.Disk.state c.run_script-status.new.disk)
+          (λ items answers wrote runs. ended (Holds g.H.Shelf.tells e.files) from c.run_script-status.result items
+          answers wrote e.opened (g.D.Disk.clock c.run_script-status.new.disk)
+          (g.D.Disk.since c.run_script-status.new.disk)
           (g.D.Disk.state c.run_script-status.new.disk) (λ (base : Base) (s : KnownState). Last base known s)
           (λ base s stays. stays_followed g.D.Disk.tells g.D.Disk.clock g.D.Disk.fault_count g.D.Disk.since
-          g.D.Disk.state base c.run_script-status.new.disk c.run_script-status.new.engine s stays)
-          c.run_script-status.ensures.opened knows runs)
+          g.D.Disk.state (origin base) c.run_script-status.new.disk c.run_script-status.new.engine s stays)
+          c.run_script-status.ensures.opened runs)
           (c.run_script-status.ensures.stops e refl refl
           (told_begins e (g.D.Disk.fault_count c.open.new.disk) (First (base_of from)) c.open.ensures.later
-          (opens g.D.Disk.tells (g.D.Disk.clock c.args.disk.now) (g.D.Disk.state c.args.disk.now) from
+          (starts g.D.Disk.tells (g.D.Disk.clock c.args.disk.now) (g.D.Disk.state c.args.disk.now) from
           (λ (base : Base) (s : KnownState). First base known s) knows
-          (λ base has. stays_opened g.D.Disk.tells g.D.Disk.clock g.D.Disk.fault_count g.D.Disk.since g.D.Disk.state
-          base c.args.disk.now c.open.new.disk c.in-Ok.engine has
-          (c.in-Ok.ensures.begins has.told base.list base.early has.store)
-          (c.open.ensures.moments has.told base.list base.early has.store) (g.met.D.Disk.only_now c.args.disk.now)))
-          (stays_bare g.D.Disk.tells g.D.Disk.clock g.D.Disk.fault_count g.D.Disk.since g.D.Disk.state (base_of from)
-          c.open.new.disk c.in-Ok.engine)))
+          (λ base has. c.in-Ok.ensures.follows has.told base 0 has.now has.store (omega arith)))
+          (stays_bare g.D.Disk.tells g.D.Disk.clock g.D.Disk.fault_count g.D.Disk.since g.D.Disk.state
+          (origin (base_of from)) c.open.new.disk c.in-Ok.engine)))
           c.end.ensures.ends;
       begins = begins_read c.run_script-status.result g.D.Disk.tells (g.D.Disk.state c.args.disk.now).present start
           (λ told. record {
@@ -72,14 +73,18 @@ returns-in-Err-clause-outcome g c = λ from knows.
       disk = g.D.Disk.fault_count c.args.disk.now;
       written = g.O.Output.written c.args.output.now;
       from = from;
+      opened = g.D.Disk.clock c.open.new.disk;
       start = nothing_yet;
       most = c.args.most;
     } in
     record {
+      opened = c.open.new.disk;
+      opens = opens_by g.D.Disk.tells g.D.Disk.clock g.D.Disk.since g.D.Disk.state c.args.disk.now c.open.new.disk from
+          knows c.open.ensures.moments;
       start = nothing_yet;
       fresh = fresh_yet;
-      outcome = whole_outcome c.open_status.result c.end-in-Err.result
-          (g.D.Disk.since c.open.new.disk (g.D.Disk.clock c.args.disk.now)) (g.D.Disk.state c.open.new.disk)
+      outcome = whole_outcome c.open_status.result c.end-in-Err.result (g.D.Disk.clock c.open.new.disk)
+          (g.D.Disk.since c.open.new.disk) (g.D.Disk.state c.open.new.disk)
           (λ items answers wrote runs. closed g.D.Disk.tells (Holds g.H.Shelf.tells e.files) g.D.Disk.clock
           g.D.Disk.since g.D.Disk.state c.args.disk.now c.open.new.disk from c.open_status.result items answers wrote
           c.open_status.ensures.closed

@@ -1,5 +1,5 @@
 use Rattle.std.proofs.Common.{◌≡◌, ◌≤◌, ◌-◌, []}
-use Rattle.cdb_front.specs.RunProgress.{RunStart, base_of, Told}
+use Rattle.cdb_front.specs.RunProgress.{RunStart, origin_of, Told}
 use Rattle.cdb_front.specs.inside.RunReading.{Reading}
 use Rattle.cdb_front.proofs.script.run_script.Given as goal
 
@@ -7,10 +7,10 @@ abbrev pub invariant-loop-taken : goal.invariant-loop-taken
 invariant-loop-taken g l = record {
   reading : (e : RunStart) → g.H.Shelf.files l.fn.shelf ≡ e.files → e.most ≡ l.most
       → Told g.H.Shelf.tells e [] (g.O.Output.written l.fn.output) (g.H.Shelf.fault_count l.fn.shelf)
-      (g.D.Disk.fault_count l.fn.disk) (g.E.StoreCalls.stays l.fn.engine l.fn.disk (base_of e.from))
+      (g.D.Disk.fault_count l.fn.disk) (g.E.StoreCalls.stays l.fn.engine l.fn.disk (origin_of e))
       → Reading g.H.Shelf.tells e (g.I.Input.left l.fn.input) (g.I.Input.left l.input) (g.O.Output.written l.output)
       (g.H.Shelf.fault_count l.shelf) (g.D.Disk.fault_count l.disk)
-      (g.E.StoreCalls.stays l.engine l.disk (base_of e.from)) l.maker l.taken;
+      (g.E.StoreCalls.stays l.engine l.disk (origin_of e)) l.maker l.taken;
   files : g.H.Shelf.files l.shelf ≡ g.H.Shelf.files l.fn.shelf;
   most : l.taken ≤ 4294967296;
   shelf_later : g.H.Shelf.fault_count l.fn.shelf ≤ g.H.Shelf.fault_count l.shelf;

@@ -1,7 +1,7 @@
 use Rattle.std.proofs.Common.{ℕ, subst, sym, arith, take, []}
 use Rattle.std.specs.Io.KnownBytes.{Consumes}
 use Rattle.std.proofs.KnownBytes.{Consumes-nil, Consumes-kept}
-use Rattle.cdb_front.specs.RunProgress.{base_of}
+use Rattle.cdb_front.specs.RunProgress.{origin_of}
 use Rattle.cdb_front.proofs.RunEnds.{reading_more, stops_quit, stops_broken, stops_input}
 use Rattle.cdb_front.proofs.script.take_turn.Goals as goal
 
@@ -24,7 +24,7 @@ pub returns-in-Quit-clause-turn : goal.returns-in-Quit-clause-turn
 returns-in-Quit-clause-turn g c = λ e left taken same most few room small reading.
     stops_quit (g.I.Input.left c.read.new.self) (g.O.Output.written c.take_piece.new.output)
     (g.H.Shelf.fault_count c.take_piece.new.shelf) (g.D.Disk.fault_count c.take_piece.new.disk)
-    (g.E.StoreCalls.stays c.take_piece.new.engine c.take_piece.new.disk (base_of e.from)) c.split_at.result.0.now
+    (g.E.StoreCalls.stays c.take_piece.new.engine c.take_piece.new.disk (origin_of e)) c.split_at.result.0.now
     reading (subst (Consumes (g.I.Input.left c.args.input.now) (g.I.Input.left c.read.new.self))
     (sym c.split_at.ensures.front) c.in-Ok.ensures.bytes.0) (omega (arith, room, c.split_at.ensures.front_len))
     (omega (arith, small, c.split_at.ensures.front_len))
@@ -34,7 +34,7 @@ pub returns-in-Failed-clause-turn : goal.returns-in-Failed-clause-turn
 returns-in-Failed-clause-turn g c = λ e left taken same most few room small reading.
     stops_broken (g.I.Input.left c.read.new.self) (g.O.Output.written c.take_piece.new.output)
     (g.H.Shelf.fault_count c.take_piece.new.shelf) (g.D.Disk.fault_count c.take_piece.new.disk)
-    (g.E.StoreCalls.stays c.take_piece.new.engine c.take_piece.new.disk (base_of e.from)) c.split_at.result.0.now
+    (g.E.StoreCalls.stays c.take_piece.new.engine c.take_piece.new.disk (origin_of e)) c.split_at.result.0.now
     reading (subst (Consumes (g.I.Input.left c.args.input.now) (g.I.Input.left c.read.new.self))
     (sym c.split_at.ensures.front) c.in-Ok.ensures.bytes.0) (omega (arith, room, c.split_at.ensures.front_len))
     (omega (arith, small, c.split_at.ensures.front_len))

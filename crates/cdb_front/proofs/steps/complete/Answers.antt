@@ -4,18 +4,18 @@ use Rattle.cdb_front.specs.AnswerMeanings.{meant}
 use Rattle.cdb_front.proofs.steps.complete.Goals as goal
 
 pub returns-clause-completes : goal.returns-clause-completes
-returns-clause-completes g c = λ w base s stays.
-    complete_makes (store_kind w) (g.E.StoreCalls.stays c.make_steps.new.engine c.make_steps.new.disk base w) s
+returns-clause-completes g c = λ w origin s stays.
+    complete_makes (store_kind w) (g.E.StoreCalls.stays c.make_steps.new.engine c.make_steps.new.disk origin w) s
     c.left-most.result (meant c.make_steps.result (g.E.StoreCalls.bytes c.make_steps.new.engine))
-    (c.if-halted.ensures c.args.disk.now w base s stays) (c.if-not-going.ensures c.args.disk.now w base s stays)
-    (c.left-most.ensures c.args.disk.now w base s stays) (c.make_steps.ensures.makes w base s stays)
+    (c.if-halted.ensures c.args.disk.now w origin s stays) (c.if-not-going.ensures c.args.disk.now w origin s stays)
+    (c.left-most.ensures c.args.disk.now w origin s stays) (c.make_steps.ensures.makes w origin s stays)
 
 pub returns-then-halted-clause-completes : goal.returns-then-halted-clause-completes
-returns-then-halted-clause-completes g c = λ w base s stays.
-    complete_halted (store_kind w) (g.E.StoreCalls.stays c.args.engine.now c.args.disk.now base w) s stays
-    (c.if-halted.ensures c.args.disk.now w base s stays)
+returns-then-halted-clause-completes g c = λ w origin s stays.
+    complete_halted (store_kind w) (g.E.StoreCalls.stays c.args.engine.now c.args.disk.now origin w) s stays
+    (c.if-halted.ensures c.args.disk.now w origin s stays)
 
 pub returns-then-not-going-clause-completes : goal.returns-then-not-going-clause-completes
-returns-then-not-going-clause-completes g c = λ w base s stays.
-    complete_nothing (store_kind w) (g.E.StoreCalls.stays c.args.engine.now c.args.disk.now base w) s stays
-    (c.if-halted.ensures c.args.disk.now w base s stays) (c.if-not-going.ensures c.args.disk.now w base s stays)
+returns-then-not-going-clause-completes g c = λ w origin s stays.
+    complete_nothing (store_kind w) (g.E.StoreCalls.stays c.args.engine.now c.args.disk.now origin w) s stays
+    (c.if-halted.ensures c.args.disk.now w origin s stays) (c.if-not-going.ensures c.args.disk.now w origin s stays)

@@ -2,7 +2,7 @@ use Rattle.std.proofs.Common.{◌≤◌, inl, inr, refl, arith}
 use Rattle.cdb_front.specs.RunProgress.{RunStart, Holds}
 use Rattle.cdb_front.specs.declared.exit_status.Status.TheVariants.{Memory}
 use Rattle.cdb_front.proofs.Checking.{checks_nothing}
-use Rattle.cdb_front.proofs.Exits.{unopened, told_shut, whole_outcome, nothing_yet, fresh_yet, Shut}
+use Rattle.cdb_front.proofs.Exits.{unopened, opens_by, told_shut, whole_outcome, nothing_yet, fresh_yet, Shut}
 use Rattle.cdb_front.proofs.Generating.{fills_nothing}
 use Rattle.cdb_front.proofs.RunEnds.{stops_closed}
 use Rattle.cdb_front.proofs.worded_run.cdb_run.Goals as goal
@@ -15,14 +15,18 @@ returns-in-Err-Memory-clause-outcome g c = λ options is mode from knows.
       disk = g.D.Disk.fault_count c.args.disk.now;
       written = g.O.Output.written c.args.output.now;
       from = from;
+      opened = g.D.Disk.clock c.args.disk.now;
       start = nothing_yet;
       most = options.background;
     } in
     let same : g.D.Disk.fault_count c.args.disk.now ≤ g.D.Disk.fault_count c.args.disk.now = omega arith in
     record {
+      opened = c.args.disk.now;
+      opens = opens_by g.D.Disk.tells g.D.Disk.clock g.D.Disk.since g.D.Disk.state c.args.disk.now c.args.disk.now from
+          knows (λ told list early store. record { later = omega arith; nothing_else = λ t m earlier was. inl was });
       start = nothing_yet;
       fresh = fresh_yet;
-      outcome = whole_outcome Memory c.end.result (g.D.Disk.since c.args.disk.now (g.D.Disk.clock c.args.disk.now))
+      outcome = whole_outcome Memory c.end.result (g.D.Disk.clock c.args.disk.now) (g.D.Disk.since c.args.disk.now)
           (g.D.Disk.state c.args.disk.now)
           (λ items answers wrote runs. unopened g.D.Disk.tells (Holds g.H.Shelf.tells e.files) g.D.Disk.clock
           g.D.Disk.since g.D.Disk.state c.args.disk.now from Memory items answers wrote tt tt knows
