@@ -11,6 +11,7 @@ pub mod Giving
 pub mod Many
 pub mod Continuing
 pub mod Completing
+pub mod OverStore
 pub mod Checking
 pub mod Serving
 pub mod InTime

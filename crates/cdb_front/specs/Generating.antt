@@ -1,8 +1,8 @@
 -- What a run of mode generate leaves and writes.
-use Rattle.std.specs.Prelude.{◌≡◌, ◌≢◌, ◌⊎◌, ℕ, ◌+◌, ℤ, List, [], Option, Some}
+use Rattle.std.specs.Prelude.{◌≡◌, ◌≢◌, ◌⊎◌, ℕ, ℤ, List, ◌++◌, Option, Some}
 use Rattle.std.specs.Io.KnownBytes.{Appends}
 use Rattle.cdb_model.specs.Causes.{Rose}
-use Rattle.cdb_model.specs.Images.{Base}
+use Rattle.cdb_model.specs.Images.{Base, StandsFrom}
 use Rattle.cdb_model.specs.KnownStore.{KnownState, start_at}
 use Rattle.cdb_model.specs.Maps.{FileMap}
 use Rattle.cdb_model.specs.Publications.{Publication}
@@ -13,135 +13,123 @@ use Rattle.cdb_model.specs.Text.{Text}
 use Rattle.cdb_files.specs.Disk as disk
 use Rattle.cdb_files.specs.Disk.{IsImage}
 use Rattle.cdb_generate.specs.Generated.{Generates, Summary, summary_text}
-use Rattle.cdb_engine.specs.Filling.{IsDrawnFileCount, StopsAfter}
+use Rattle.cdb_engine.specs.Filling.{AreMade, StopsAfter}
 use Rattle.cdb_engine.specs.declared.errors.PopulateError.{PopulateError}
 use Rattle.cdb_engine.specs.declared.errors.PopulateError.TheVariants as populate
-use Rattle.cdb_front.specs.Beginning.{CountsRecords, OpensBy}
+use Rattle.cdb_front.specs.Beginning.{CountsRecords}
 use Rattle.cdb_front.specs.Completeness.{Still}
 use Rattle.cdb_front.specs.Devices.{WritesPart}
 use Rattle.cdb_front.specs.EntryStore.{HasStore}
-use Rattle.cdb_front.specs.RunOutcome.{LeavesNoEarly}
-use Rattle.cdb_front.specs.StatusCodes.{status_line}
+use Rattle.cdb_front.specs.OverStore.{EndsOver}
+use Rattle.cdb_front.specs.RunOutcome.{EndsWith}
 use Rattle.cdb_front.specs.declared.exit_status.Limit.{Limit}
 use Rattle.cdb_front.specs.declared.exit_status.Limit.TheVariants.{Entries, Versions}
 use Rattle.cdb_front.specs.declared.exit_status.Status.{Status}
-use Rattle.cdb_front.specs.declared.exit_status.Status.TheVariants.{Done, Memory, Usage, InputFault, OutputFault, StoreFault, NotAStore, TooLong, Differs, Refused, Damaged}
+use Rattle.cdb_front.specs.declared.exit_status.Status.TheVariants.{Done, Memory, Usage, InputFault, OutputFault}
+use Rattle.cdb_front.specs.declared.exit_status.Status.TheVariants.{StoreFault, NotAStore, TooLong, Differs, Refused}
+use Rattle.cdb_front.specs.declared.exit_status.Status.TheVariants.{Damaged}
 
--- ---- what is written
+-- ---- over any disk, whatever it holds, and whether it tells it or not
 
--- the three lines: how many versions there are, how many files were made, and the sum of their values
-pub record SaysSummary (old new : Option (List ℕ)) : Type 0 where
-  pub versions : ℕ
+-- the machine began with nothing pending, going or open, and, where the disk tells, with what the records count that
+-- were there
+pub record BeginsFresh (tells : Type 0) (present : FileMap) (entry : StateIn any_store) : Type 0 where
+  pub fresh : IsFreshIn any_store entry
+  pub read : tells → CountsRecords present entry
+
+-- all publications were made, and of the three lines this much was written: the newest version, how many files of tiles
+-- they have, and a sum
+pub record MakesAll (tells : Type 0) (present : FileMap) (start count : ℕ) (Wrote : Text → Type 0) : Type 0 where
+  pub entry : StateIn any_store
+  pub begins : BeginsFresh tells present entry
   pub files : ℕ
   pub sum : ℤ
-  pub appended : Appends old new (summary_text versions files sum)
+  pub next : StateIn any_store
+  pub made : AreMade any entry start count files sum next
+  pub wrote : Wrote (summary_text next.list.versions files sum)
 
--- a part of them was written, or of the line of a status
-pub data SaysLess (old new : Option (List ℕ)) : Type 0 where
-  of_summary : (versions files : ℕ) (sum : ℤ) → WritesPart old new (summary_text versions files sum)
-      → SaysLess old new
-  of_status : (status : Status) → WritesPart old new (status_line status) → SaysLess old new
-
--- and the run ends in no other way
-abbrev pub SaysMade : Option (List ℕ) → Option (List ℕ) → Status → Type 0
-SaysMade old new Done = SaysSummary old new
-SaysMade old new OutputFault = SaysLess old new
-SaysMade old new Usage = ⊥
-SaysMade old new InputFault = ⊥
-SaysMade old new TooLong = ⊥
-SaysMade old new (Differs path) = ⊥
-SaysMade old new status = Appends old new (status_line status)
-
--- ---- over a store
+-- the machine stopped so before all were made
+pub record StopsFrom (tells : Type 0) (present : FileMap) (start count : ℕ) (error : PopulateError) : Type 0 where
+  pub entry : StateIn any_store
+  pub begins : BeginsFresh tells present entry
+  pub next : StateIn any_store
+  pub stops : StopsAfter any entry start count error next
 
 abbrev pub error_of : Limit → PopulateError
 error_of (Entries count) = populate.Entries count
 error_of Versions = populate.Versions
 
+-- how the run ended, before the line of its status: the three lines were written, or a part of them and not all; or
+-- nothing was. A limit is told where the machine comes to it, a file as damaged where the machine may, and only with
+-- another size than the one that is expected; and the run ends in no other way
+abbrev pub SaysMade : Type 0 → FileMap → ℕ → ℕ → Option (List ℕ) → Option (List ℕ) → Status → Type 0
+SaysMade tells present start count old new Done = MakesAll tells present start count (Appends old new)
+SaysMade tells present start count old new OutputFault = MakesAll tells present start count (WritesPart old new)
+SaysMade tells present start count old new (Refused limit) =
+    (new ≡ old) × StopsFrom tells present start count (error_of limit)
+SaysMade tells present start count old new (Damaged expected found) =
+    (new ≡ old) × ((found ≢ Some expected) × StopsFrom tells present start count (populate.Damaged expected found))
+SaysMade tells present start count old new Usage = ⊥
+SaysMade tells present start count old new InputFault = ⊥
+SaysMade tells present start count old new TooLong = ⊥
+SaysMade tells present start count old new (Differs path) = ⊥
+SaysMade tells present start count old new status = new ≡ old
+
+-- ---- over a store
+
 -- the next publication of the generator would pass the limit; a crash leaves those before it
-pub record IsAtLimit (list : List Publication) (start count : ℕ) (limit : Limit) (Left : FileMap → Type 0) : Type 0 where
+pub record IsAtLimit (list : List Publication) (start count : ℕ) (limit : Limit)
+    (Left : FileMap → Type 0) : Type 0 where
   pub next : KnownState
   pub stops : StopsAfter known (start_at list) start count (error_of limit) next
   pub at_exit : (m : FileMap) → Left m → Stands m next.list
 
--- what was written tells of all publications, and a crash leaves them all
-pub record SumsUp (list begun : List Publication) (count : ℕ) (Left : FileMap → Type 0) (old new : Option (List ℕ))
+-- this much was written of a text that tells of all publications, and a crash leaves them all
+pub record SumsUp (list begun : List Publication) (count : ℕ) (Left : FileMap → Type 0) (Wrote : Text → Type 0)
     : Type 0 where
-  pub wrote : Text
-  pub appended : Appends old new wrote
-  pub summary : Summary list begun count Left wrote
+  pub text : Text
+  pub wrote : Wrote text
+  pub summary : Summary list begun count Left text
 
 -- no file is damaged
 abbrev pub EndsMade : List Publication → ℕ → ℕ → List Publication → (FileMap → Type 0) → Option (List ℕ)
     → Option (List ℕ) → Status → Type 0
-EndsMade list start count begun Left old new Done = SumsUp list begun count Left old new
+EndsMade list start count begun Left old new Done = SumsUp list begun count Left (Appends old new)
+EndsMade list start count begun Left old new OutputFault = SumsUp list begun count Left (WritesPart old new)
 EndsMade list start count begun Left old new (Refused limit) = IsAtLimit list start count limit Left
 EndsMade list start count begun Left old new (Damaged expected found) = ⊥
 EndsMade list start count begun Left old new (NotAStore version place) = ⊥
 EndsMade list start count begun Left old new status = Unit {0}
 
--- since opening ended no crash leaves an early list; where the run may have ended in opening, that is so, or nothing is
--- begun
-abbrev pub MadeSinceOpening : Status → Base → List Publication → ℕ → ℕ → (ℕ → FileMap → Type 0) → Type 0
-MadeSinceOpening Done base begun opened now Since = LeavesNoEarly base begun opened now Since
-MadeSinceOpening (Refused limit) base begun opened now Since = LeavesNoEarly base begun opened now Since
-MadeSinceOpening status base begun opened now Since = LeavesNoEarly base begun opened now Since ⊎ (begun ≡ [])
+-- what a crash leaves at the end of a run that opened the store: the list followed by the first of the publications
+-- begun, and by all of them where all were made
+abbrev pub StandsMade : Status → List Publication → List Publication → FileMap → Type 0
+StandsMade Done list begun m = Stands m (list ++ begun)
+StandsMade OutputFault list begun m = Stands m (list ++ begun)
+StandsMade status list begun m = StandsFrom list begun m
 
 -- whatever the status, the publications begun are the first of the generator's, and each crash since the run began
--- leaves the list followed by the first of them, or, up to the end of opening, one of the early lists
-pub record FillsStore (base : Base) (start count opened now : ℕ) (Since : ℕ → FileMap → Type 0)
-    (Left : FileMap → Type 0) (old new : Option (List ℕ)) (status : Status) : Type 0 where
+-- leaves the list followed by the first of them; one of the early lists only up to the end of opening
+pub record FillsStore {D : Type 0} (state : D → disk.State) (clock : D → ℕ) (since : D → ℕ → FileMap → Type 0)
+    (base : Base) (start count : ℕ) (old new : D) (written written' : Option (List ℕ)) (status : Status) : Type 0 where
   pub begun : List Publication
-  pub generates : Generates base start count (Since base.moment) begun
-  pub since_opening : MadeSinceOpening status base begun opened now Since
-  pub ends : EndsMade base.list start count begun Left old new status
-
--- ---- over any disk
-
--- the machine stops so, from this state
-pub record StopsFrom (entry : StateIn any_store) (start count : ℕ) (error : PopulateError) : Type 0 where
-  pub next : StateIn any_store
-  pub stops : StopsAfter any entry start count error next
-
--- the three lines tell of the versions that there were and of so many more, and of the files of the first publications
--- that are drawn, so many; the sum is any
-pub record TellsMade (entry : StateIn any_store) (start count : ℕ) (old new : Option (List ℕ)) : Type 0 where
-  pub files : ℕ
-  pub files_are : IsDrawnFileCount start count files
-  pub sum : ℤ
-  pub appended : Appends old new (summary_text (entry.list.versions + count) files sum)
-
--- a file that is told as damaged has another size than the one that was wanted
-abbrev pub MadeFrom : StateIn any_store → ℕ → ℕ → Option (List ℕ) → Option (List ℕ) → Status → Type 0
-MadeFrom entry start count old new Done = TellsMade entry start count old new
-MadeFrom entry start count old new (Refused limit) = StopsFrom entry start count (error_of limit)
-MadeFrom entry start count old new (Damaged expected found) =
-    StopsFrom entry start count (populate.Damaged expected found) × (found ≢ Some expected)
-MadeFrom entry start count old new status = Unit {0}
-
--- where the disk tells, and the status comes after opening alone
-abbrev pub FillsAsRead : Type 0 → FileMap → StateIn any_store → Status → Type 0
-FillsAsRead tells present entry Done = tells → CountsRecords present entry
-FillsAsRead tells present entry (Refused limit) = tells → CountsRecords present entry
-FillsAsRead tells present entry (Damaged expected found) = tells → CountsRecords present entry
-FillsAsRead tells present entry status = Unit {0}
+  pub generates : Generates base start count (since new base.moment) begun
+  pub over : EndsOver clock since base old new begun (StandsFrom base.list begun) (StandsMade status base.list begun)
+      (IsImage (state new)) status
+  pub ends : EndsMade base.list start count begun (IsImage (state new)) written written' status
 
 -- ---- the whole run
 
--- what was written; how the machine went from a state in which nothing is pending, going or open, whatever the disk
--- held; the disk once opening had ended, and how it went over a store
+-- how it ended, what was written until then, and the line of the status
 pub record Fills {D : Type 0} (tells : Type 0) (state : D → disk.State) (clock : D → ℕ)
     (since : D → ℕ → FileMap → Type 0) (start count : ℕ) (old new : D) (written written' : Option (List ℕ))
-    (status : Status) : Type 0 where
-  pub says : SaysMade written written' status
-  pub entry : StateIn any_store
-  pub fresh : IsFreshIn any_store entry
-  pub begins : FillsAsRead tells (state old).present entry status
-  pub made : MadeFrom entry start count written written' status
-  pub opened : D
-  pub opens : (base : Base) → HasStore tells base (clock old) (state old) → OpensBy clock since (Some base) old opened
+    (result : Status) : Type 0 where
+  pub status : Status
+  pub mid : Option (List ℕ)
+  pub says : SaysMade tells (state old).present start count written mid status
   pub store : (base : Base) → HasStore tells base (clock old) (state old)
-      → FillsStore base start count (clock opened) (clock new) (since new) (IsImage (state new)) written written' status
+      → FillsStore state clock since base start count old new written mid status
+  pub ends : EndsWith status mid written' result
 
 -- ---- no device fails
 

@@ -13,6 +13,7 @@ pub mod Failures
 pub mod Beginning
 pub mod Headline
 pub mod Completeness
+pub mod OverStore
 pub mod Checking
 pub mod Generating
 pub mod Served
