@@ -5,13 +5,8 @@ ghost use Rattle.cdb_source.specs.Sample.{sample_at, sample_of};
 use crate::average::mean_of_four;
 use crate::raster::{is_inside, post};
 use cdb_grid::units::{east_of, north_of};
-use cdb_grid::{Arc, DEGREE};
+use cdb_grid::{Arc, TO_POLE, TO_WEST};
 use cdb_source::{Kind, Source};
-
-/// Arc units from the equator to a pole, and from the meridian of 0 degrees to that of 180.
-const TO_POLE: i64 = 90 * DEGREE as i64;
-
-const TO_WEST: i64 = 180 * DEGREE as i64;
 
 /// What a source has at a latitude and a longitude.
 ///

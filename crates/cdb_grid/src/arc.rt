@@ -13,6 +13,12 @@ pub struct Arc {
 /// The arc units of one degree, `2025 * 2^34`.
 pub const DEGREE: u64 = 34_789_235_097_600;
 
+/// The arc units from the equator to a pole.
+pub const TO_POLE: i64 = 90 * DEGREE as i64;
+
+/// The arc units from the meridian of 0 degrees to that of 180 degrees.
+pub const TO_WEST: i64 = 180 * DEGREE as i64;
+
 impl Arc {
     /// `n/d` degrees, or `None` where `d` is below 1, `n/d` isn't a whole number of units, or it is
     /// beyond 360 degrees to either side.

@@ -19,7 +19,7 @@ mod tile;
 pub mod units;
 mod zone;
 
-pub use arc::{Arc, DEGREE};
+pub use arc::{Arc, DEGREE, TO_POLE, TO_WEST};
 pub use element::{corner, place};
 pub use family::Family;
 pub use fraction::Fraction;

@@ -3,7 +3,7 @@
 ghost use Rattle.std.specs.Prelude.{◌≡◌, ℤ, pos, negsuc, ◌≤ℤ◌, ◌<ℤ◌, ◌+◌, ◌-◌, ◌*◌, ◌<◌, ◌≤◌, ◌%◌, ◌↔◌, IsTrue};
 ghost use Rattle.cdb_grid.specs.Units.{degree, height_of, step, side_of, tiles_of, width_at, row_of, column_of, from_pole, from_west, IsOnGlobe};
 
-use crate::arc::{Arc, DEGREE};
+use crate::arc::{Arc, TO_POLE, TO_WEST};
 use crate::geocell::Geocell;
 use crate::level::Level;
 use crate::zone::zone_of;
@@ -75,9 +75,7 @@ pub(crate) fn extent(level: Level) -> u64
 pub(crate) fn is_on_globe(lat: Arc, lon: Arc) -> bool
     ensures { IsTrue result ↔ IsOnGlobe lat.units lon.units }
 {
-    let north = 90 * DEGREE as i64;
-    let east = 180 * DEGREE as i64;
-    (-north..north).contains(&lat.units) && (-east..east).contains(&lon.units)
+    (-TO_POLE..TO_POLE).contains(&lat.units) && (-TO_WEST..TO_WEST).contains(&lon.units)
 }
 
 /// The arc units from the south pole to a latitude, 0 at -90 degrees.
@@ -86,7 +84,7 @@ pub fn north_of(lat: Arc) -> u64
     ensures value { result ≡ from_pole lat.units }
     ensures most { lat.units <ℤ pos (90 * degree) → result < 180 * degree }
 {
-    (lat.units + 90 * DEGREE as i64) as u64
+    (lat.units + TO_POLE) as u64
 }
 
 /// The arc units from the meridian of -180 degrees eastward to a longitude, 0 at -180 degrees.
@@ -95,7 +93,7 @@ pub fn east_of(lon: Arc) -> u64
     ensures value { result ≡ from_west lon.units }
     ensures most { lon.units <ℤ pos (180 * degree) → result < 360 * degree }
 {
-    (lon.units + 180 * DEGREE as i64) as u64
+    (lon.units + TO_WEST) as u64
 }
 
 /// The latitude and the longitude of so many arc units from the south pole and from the meridian of
@@ -108,10 +106,10 @@ pub fn arcs(north: u64, east: u64) -> (Arc, Arc)
     ensures on_globe { IsOnGlobe result.0.units result.1.units }
 {
     let lat = Arc {
-        units: north as i64 - 90 * DEGREE as i64,
+        units: north as i64 - TO_POLE,
     };
     let lon = Arc {
-        units: east as i64 - 180 * DEGREE as i64,
+        units: east as i64 - TO_WEST,
     };
     (lat, lon)
 }

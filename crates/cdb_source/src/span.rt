@@ -4,12 +4,7 @@ ghost use Rattle.cdb_grid.specs.Units.{degree, from_pole, from_west};
 ghost use Rattle.cdb_source.specs.Head.{magnitude, span, IsStep, IsRaster, IsLatitude, IsLongitude};
 
 use crate::kind::Kind;
-use cdb_grid::{Arc, DEGREE};
-
-/// Arc units from the equator to a pole, and from the meridian of 0 degrees to that of 180.
-const TO_POLE: i64 = 90 * DEGREE as i64;
-
-const TO_WEST: i64 = 180 * DEGREE as i64;
+use cdb_grid::{Arc, DEGREE, TO_POLE, TO_WEST};
 
 /// Arc units of 12 degrees.
 const GREATEST_STEP: u64 = 12 * DEGREE;
