@@ -9,6 +9,7 @@ ghost use Rattle.cdb_manifest.specs.declared.record_.Record as manifest;
 ghost use Rattle.cdb_chain.specs.Publications.{AreRecords};
 ghost use Rattle.cdb_chain.specs.Versions.{place_cmp, places_of, IsFound};
 ghost use Rattle.cdb_chain.specs.inside.Versions.{IsPlaced};
+ghost use Rattle.cdb_model.specs.declared.limits.TheConstants.{MOST_VERSIONS};
 
 use crate::place::Place;
 use cdb_grid::Tile;
@@ -82,7 +83,7 @@ impl Chain {
     /// The newest version, 0 where there is none.
     pub fn newest(&self) -> u32
         ensures value { result ≡ length self.now.records }
-        ensures most { result ≤ 4096 }
+        ensures most { result ≤ MOST_VERSIONS }
     {
         self.records.len() as u32
     }
@@ -109,7 +110,7 @@ impl Chain {
     pub fn find(&self, version: u32, tile: &Tile) -> Option<u32>
         ensures found { IsFound self.now version tile.now result }
         ensures least { IfSome result (λ v. 1 ≤ v) }
-        ensures most { IfSome result (λ v. v ≤ 4096) }
+        ensures most { IfSome result (λ v. v ≤ MOST_VERSIONS) }
     {
         newest_in(self.index.as_slice(), version, tile)
     }

@@ -8,6 +8,7 @@ ghost use Rattle.cdb_chain.specs.Versions.{places_of};
 ghost use Rattle.cdb_chain.specs.Publications.{OpensTo};
 ghost use Rattle.cdb_chain.specs.Opening.{IsOpenedFrom};
 ghost use Rattle.cdb_chain.specs.inside.Opening.{AreBytes, IsItem, IsRecordOf};
+ghost use Rattle.cdb_model.specs.declared.limits.TheConstants.{MOST_VERSIONS};
 
 use crate::chain::{Chain, push_places};
 use crate::open_error::OpenError;
@@ -20,7 +21,7 @@ use std::alloc::{AllocError, Global};
 /// The bytes of a version's record.
 fn read_bytes<D: Disk>(alloc: Global, disk: &mut D, version: u32) -> Result<Vec<u8>, OpenError>
     requires from_one { 1 ≤ version }
-    requires to_last { version ≤ 4096 }
+    requires to_last { version ≤ MOST_VERSIONS }
     ensures bytes { AreBytes D.tells ((D.state disk.old).present (record_path version)) version result }
     ensures state { D.state disk.new ≡ D.state disk.old }
     ensures time { Rests (D.clock disk.old) (D.clock disk.new) (D.since disk.old) (D.since disk.new) }
@@ -66,7 +67,7 @@ fn record_in(alloc: Global, bytes: &[u8], version: u32) -> Result<Record, OpenEr
 /// The record of a version.
 fn read_record<D: Disk>(alloc: Global, disk: &mut D, version: u32) -> Result<Record, OpenError>
     requires from_one { 1 ≤ version }
-    requires to_last { version ≤ 4096 }
+    requires to_last { version ≤ MOST_VERSIONS }
     ensures item { IsRecordOf D.tells ((D.state disk.old).present (record_path version)) version result }
     ensures state { D.state disk.new ≡ D.state disk.old }
     ensures time { Rests (D.clock disk.old) (D.clock disk.new) (D.since disk.old) (D.since disk.new) }
@@ -98,7 +99,7 @@ impl Chain {
     /// isn't there, is longer than the longest record, isn't of its form, or is of another version:
     /// the first such version, and the place of the first bad byte.
     pub fn open<D: Disk>(alloc: Global, disk: &mut D, newest: u32) -> Result<Chain, OpenError>
-        requires { newest ≤ 4096 }
+        requires { newest ≤ MOST_VERSIONS }
         ensures opened { IsOpenedFrom D.tells (D.state disk.old).present newest result }
         ensures store { D.tells → (P : List (List given.Source)) → Stands (D.state disk.old).present P
             → newest ≡ length P → OpensTo P result }

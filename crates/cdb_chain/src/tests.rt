@@ -1,4 +1,5 @@
 ghost use Rattle.std.specs.Prelude.{◌≤◌};
+ghost use Rattle.cdb_model.specs.declared.limits.TheConstants.{MOST_VERSIONS};
 
 use super::*;
 use cdb_files::{folder_above, write_whole};
@@ -65,7 +66,7 @@ fn full(alloc: Global, version: u32, heads: u32, tiles: u32) -> Result<Vec<u8>, 
 /// Writes the record of a version, whatever its bytes.
 fn put(disk: &mut MemDisk, version: u32, bytes: &[u8]) -> Result<(), Fail>
     requires from_one { 1 ≤ version }
-    requires to_last { version ≤ 4096 }
+    requires to_last { version ≤ MOST_VERSIONS }
 {
     let path = record_path(version);
     write_whole(disk, &folder_above(&path), &path, bytes)?;
@@ -160,7 +161,7 @@ fn look_ups_between_three_versions(rt: HostRuntime) -> Result<(), Fail> {
 /// What opening the three versions and a fourth answers, one of them with other bytes.
 fn open_answer(alloc: Global, version: u32, bytes: &[u8]) -> Result<Option<OpenError>, Fail>
     requires from_one { 1 ≤ version }
-    requires to_last { version ≤ 4096 }
+    requires to_last { version ≤ MOST_VERSIONS }
 {
     let mut disk = three(alloc)?;
     put(&mut disk, version, bytes)?;
@@ -199,7 +200,7 @@ fn too_long(alloc: Global) -> Result<Option<OpenError>, Fail> {
 /// The record of a version with one tile, put as that of another version.
 fn other(alloc: Global, written: u32, version: u32) -> Result<Option<OpenError>, Fail>
     requires from_one { 1 ≤ version }
-    requires to_last { version ≤ 4096 }
+    requires to_last { version ≤ MOST_VERSIONS }
 {
     let bytes = record(alloc, written, &[(4, -10)])?;
     open_answer(alloc, version, bytes.as_slice())

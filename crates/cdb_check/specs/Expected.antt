@@ -4,6 +4,7 @@ use Rattle.std.specs.Prelude.{◌≡◌, ℕ, ◌+◌, ◌≤◌, ◌⊎◌, Lis
 use Rattle.cdb_grid.specs.declared.tile.Tile.{Tile}
 use Rattle.cdb_source.specs.declared.head.SourceHead.{SourceHead}
 use Rattle.cdb_source.specs.declared.source.Source.{Source}
+use Rattle.cdb_source.specs.declared.limits.TheConstants.{MOST_LOAD}
 use Rattle.cdb_source.specs.Reached.{IsTouched, IsLoad}
 use Rattle.cdb_source.specs.Texts.{source_text}
 use Rattle.cdb_model.specs.Maps.{Text, FileMap}
@@ -71,7 +72,7 @@ SpellAll m _ _ = ⊥
 pub record MayTouch (heads : List SourceHead) (tiles : List Tile) : Type 0 where
   pub load : ℕ
   pub load_is : IsLoad heads load
-  pub fits : load ≤ 16384
+  pub fits : load ≤ MOST_LOAD
   pub touched : IsTouched heads tiles
 
 -- a file is what it must be: a record has its bytes, and lists the tiles that its heads touch; a source file is that of

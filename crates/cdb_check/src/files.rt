@@ -13,6 +13,7 @@ ghost use Rattle.cdb_check.specs.Outcome.{OnlyReads, IsFaultCaused};
 ghost use Rattle.cdb_check.specs.inside.Outcome.{Judges, GivesFile, DecodesTo, IsAbout, IsAt, Unread};
 ghost use Rattle.cdb_check.specs.Rooms.{IsRoomy};
 ghost use Rattle.cdb_check.specs.declared.outcome.CheckError.TheVariants as CheckError;
+ghost use Rattle.cdb_model.specs.declared.limits.TheConstants.{MOST_TILE_BYTES, MOST_TILE_VALUES, MOST_VERSIONS};
 
 use crate::compare::{has_bytes, same_head, same_tiles};
 use crate::kept::Kept;
@@ -23,16 +24,10 @@ use cdb_files::{Disk, Path, ReadSize, read_whole};
 use cdb_grid::{Tile, side};
 use cdb_manifest::{Record, encode};
 use cdb_names::{record_path, source_path, write_path};
-use cdb_source::{DecodeError, Source, SourceHead, decode};
+use cdb_source::{DecodeError, MOST_LOAD, SOURCE_FRONT_BYTES, Source, SourceHead, decode};
 use cdb_tiff_write::{put_file, tile_size};
 use cdb_touch::{load, touched};
 use std::alloc::Global;
-
-/// The greatest load of a publication.
-const LOAD_LIMIT: u128 = 16_384;
-
-/// The bytes of a source file before its posts.
-const HEAD_BYTES: usize = 52;
 
 /// Whether heads may be published together, and touch these tiles.
 fn may_touch(alloc: Global, heads: &[SourceHead], tiles: &[Tile]) -> Result<bool, CheckError>
@@ -40,7 +35,7 @@ fn may_touch(alloc: Global, heads: &[SourceHead], tiles: &[Tile]) -> Result<bool
     ensures may { IfOk result (λ may. IsTrue may ↔ MayTouch heads.now tiles.now) }
     ensures memory { IfErr result (λ e. e ≡ CheckError.Memory) }
 {
-    if load(heads) > LOAD_LIMIT {
+    if load(heads) > MOST_LOAD {
         return Ok(false);
     }
     match touched(alloc, heads) {
@@ -154,7 +149,7 @@ pub(crate) fn check_source<D: Disk>(
     disk: &mut D,
 ) -> Result<Source, CheckError>
     requires version_least { 1 ≤ version }
-    requires version_most { version ≤ 4096 }
+    requires version_most { version ≤ MOST_VERSIONS }
     requires number_least { 1 ≤ number }
     requires number_most { number ≤ 64 }
     ensures gives { D.tells → GivesFile (D.state disk.old).present (source_file version number head.now) result }
@@ -163,7 +158,7 @@ pub(crate) fn check_source<D: Disk>(
     ensures cause { IsFaultCaused (D.fault_count disk.old) (D.fault_count disk.new) result }
 {
     let path = source_path(version, number);
-    let size = HEAD_BYTES + 2 * (head.rows as usize * head.cols as usize);
+    let size = SOURCE_FRONT_BYTES + 2 * (head.rows as usize * head.cols as usize);
     match read_sized(alloc, &path, size, disk) {
         Ok(bytes) => source_of(alloc, bytes.as_slice(), head, path),
         Err(error) => Err(error),
@@ -204,11 +199,11 @@ fn check_built<D: Disk>(
     disk: &mut D,
 ) -> Result<(), CheckError>
     requires version_least { 1 ≤ version }
-    requires version_most { version ≤ 4096 }
+    requires version_most { version ≤ MOST_VERSIONS }
     requires kept { AreKeptFrames sources.now kept.old.items }
-    requires frame { 1048576 ≤ length frame.old }
-    requires bytes { 2097338 ≤ length bytes.old }
-    requires found { 2097338 ≤ length found.old }
+    requires frame { MOST_TILE_VALUES ≤ length frame.old }
+    requires bytes { MOST_TILE_BYTES ≤ length bytes.old }
+    requires found { MOST_TILE_BYTES ≤ length found.old }
     ensures judged { D.tells → (files : List SourceFile) → SpellAll (D.state disk.old).present files sources.now
         → Judges (IsAsExpected (D.state disk.old).present (a_tile files version tile.now))
         (names.path version tile.now) result }
@@ -242,7 +237,7 @@ pub(crate) fn check_tile<D: Disk>(
     disk: &mut D,
 ) -> Result<(), CheckError>
     requires version_least { 1 ≤ version }
-    requires version_most { version ≤ 4096 }
+    requires version_most { version ≤ MOST_VERSIONS }
     requires kept { AreKeptFrames sources.now kept.old.items }
     requires ready { IsRoomy room.old }
     ensures judged { D.tells → (files : List SourceFile) → SpellAll (D.state disk.old).present files sources.now

@@ -13,8 +13,8 @@ ghost use Rattle.cdb_check.specs.Kept.{AreKeptFrames};
 
 use crate::kept::Kept;
 use crate::painting::{clear, paint_sources};
-use crate::room::LARGEST_TILE;
 use cdb_grid::{Family, Spot, Tile, children, side, spot_of};
+use cdb_model::MOST_TILE_VALUES;
 use cdb_scratch::build;
 use cdb_source::Source;
 use cdb_touch::reached;
@@ -77,7 +77,7 @@ fn fold_child(
 )
     requires kept { AreKeptFrames sources.now kept.now }
     requires parent { IsParent child.now tile.now }
-    requires spare { 1048576 ≤ length spare.old }
+    requires spare { MOST_TILE_VALUES ≤ length spare.old }
     requires frame { length frame.old ≡ tile_side tile.now * tile_side tile.now }
     ensures { (start : ℕ → ℕ → Option ℤ) (done : List grid.Tile) → IsPlain tile.now start
         → IsFolded sources.now tile.now start done frame.old
@@ -106,7 +106,7 @@ fn fold_children(
 )
     requires kept { AreKeptFrames sources.now kept.now }
     requires finer { AreChildren tile.now finer.now }
-    requires spare { 1048576 ≤ length spare.old }
+    requires spare { MOST_TILE_VALUES ≤ length spare.old }
     requires frame { length frame.old ≡ tile_side tile.now * tile_side tile.now }
     ensures { (start : ℕ → ℕ → Option ℤ) → IsPlain tile.now start
         → IsFolded sources.now tile.now start [] frame.old → IsWholeFolded sources.now tile.now start frame.new }
@@ -121,7 +121,7 @@ fn fold_children(
 fn make_own(sources: &[Source], kept: &[Kept], tile: &Tile, spare: &mut [i16], frame: &mut [i16])
     requires kept { AreKeptFrames sources.now kept.now }
     requires own { IsOwn tile.now.family }
-    requires spare { 1048576 ≤ length spare.old }
+    requires spare { MOST_TILE_VALUES ≤ length spare.old }
     requires frame { length frame.old ≡ tile_side tile.now * tile_side tile.now }
     ensures { IsFrameOf sources.now tile.now frame.new }
 {
@@ -141,7 +141,7 @@ fn make_elevations(
     frame: &mut [i16],
 )
     requires kept { AreKeptFrames sources.now kept.now }
-    requires spare { 1048576 ≤ length spare.old }
+    requires spare { MOST_TILE_VALUES ≤ length spare.old }
     requires frame { length frame.old ≡ tile_side tile.now * tile_side tile.now }
     ensures { IsFrameOf sources.now (elevation_tile tile.now) frame.new }
 {
@@ -163,7 +163,7 @@ fn make_extreme(
 )
     requires kept { AreKeptFrames sources.now kept.now }
     requires extreme { IsExtreme tile.now.family }
-    requires spare { 1048576 ≤ length spare.old }
+    requires spare { MOST_TILE_VALUES ≤ length spare.old }
     requires frame { length frame.old ≡ tile_side tile.now * tile_side tile.now }
     ensures { IsFrameOf sources.now tile.now frame.new }
 {
@@ -191,7 +191,7 @@ pub(crate) fn make_tile(
     if Kept::copy(kept, tile, frame) {
         return;
     }
-    if spare.len() < LARGEST_TILE {
+    if spare.len() < MOST_TILE_VALUES {
         build_tile(sources, tile, frame);
         return;
     }

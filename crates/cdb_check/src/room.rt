@@ -1,12 +1,7 @@
 ghost use Rattle.std.specs.Prelude.{◌≤◌};
 
+use cdb_model::{MOST_TILE_BYTES, MOST_TILE_VALUES};
 use std::alloc::{AllocError, Global};
-
-/// The values of the largest tile: 1,024 rows of 1,024.
-pub(crate) const LARGEST_TILE: usize = 1_048_576;
-
-/// The bytes of the largest tile's file: 186, and two for each value.
-const LARGEST_FILE: usize = 2_097_338;
 
 /// The memory in which tiles are built and files are read: enough for the largest tile.
 #[derive(Drop)]
@@ -25,7 +20,7 @@ pub struct Room {
 fn spare_for(alloc: Global, finer: usize) -> Result<Vec<i16>, AllocError>
     requires { finer ≤ 27 }
 {
-    vec![in alloc; 0; finer * LARGEST_TILE]
+    vec![in alloc; 0; finer * MOST_TILE_VALUES]
 }
 
 impl Room {
@@ -37,10 +32,10 @@ impl Room {
         requires { finer ≤ 27 }
         ensures { IfOk result IsRoomy }
     {
-        let frame = vec![in alloc; 0; LARGEST_TILE]?;
+        let frame = vec![in alloc; 0; MOST_TILE_VALUES]?;
         let spare = spare_for(alloc, finer)?;
-        let bytes = vec![in alloc; 0; LARGEST_FILE]?;
-        let found = vec![in alloc; 0; LARGEST_FILE]?;
+        let bytes = vec![in alloc; 0; MOST_TILE_BYTES]?;
+        let found = vec![in alloc; 0; MOST_TILE_BYTES]?;
         Ok(Room {
             frame,
             spare,

@@ -3,6 +3,7 @@ ghost use Rattle.std.specs.Prelude.{◌≡◌, ◌+◌, ◌≤◌, ◌++◌, Lis
 ghost use Rattle.cdb_check.specs.Expected.{SourceFile, source_files_of, expected_of, expected_files, a_source, a_tile, SpellAll};
 ghost use Rattle.cdb_check.specs.Outcome.{FirstDiffering, OnlyReads, IsFaultCaused, TellsCounts};
 ghost use Rattle.cdb_check.specs.Rooms.{IsRoomy};
+ghost use Rattle.cdb_model.specs.declared.limits.TheConstants.{MOST_VERSIONS};
 
 use crate::files::{check_record, check_source, check_tile};
 use crate::outcome::{Agreed, CheckError};
@@ -57,7 +58,7 @@ fn check_tiles<D: Disk>(
     disk: &mut D,
 ) -> Result<(), CheckError>
     requires version_least { 1 ≤ version }
-    requires version_most { version ≤ 4096 }
+    requires version_most { version ≤ MOST_VERSIONS }
     requires ready { IsRoomy room.old }
     ensures finds { D.tells → (files : List SourceFile) → SpellAll (D.state disk.old).present files sources.now
         → FirstDiffering (D.state disk.old).present (map (a_tile files version) tiles.now) result }

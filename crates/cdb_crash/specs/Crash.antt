@@ -7,11 +7,12 @@ use Rattle.cdb_model.specs.Stands.{AtMost}
 use Rattle.cdb_files.specs.Disk.{State, IsImage, Allows, after_rename, after_sync_dir}
 use Rattle.cdb_files.specs.Whole.{after_fill}
 use Rattle.cdb_crash.specs.Leftovers.{IsOfVersion, HasAtMost}
+use Rattle.cdb_model.specs.declared.limits.TheConstants.{MOST_VERSIONS}
 
 -- A path under a version that has no file at present has none after a crash. The last version is 4,096, and files may be
 -- left under the one after it.
 pub record IsClear (s : State) : Type 0 where
-  pub gone : (version : ℕ) → version ≤ 4097 → (path : Text) → IsOfVersion version path → s.present path ≡ None → (v : Content) → Allows (s.may path) v → v ≡ None
+  pub gone : (version : ℕ) → version ≤ MOST_VERSIONS + 1 → (path : Text) → IsOfVersion version path → s.present path ≡ None → (v : Content) → Allows (s.may path) v → v ≡ None
 
 -- A crash may leave a file at the path.
 abbrev pub MayLast : State → Text → Type 0

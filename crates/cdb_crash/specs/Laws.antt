@@ -16,6 +16,7 @@ use Rattle.cdb_crash.specs.Leftovers.{IsOfVersion, IsLeftover, HasAtMost, HasNex
 use Rattle.cdb_crash.specs.Plan.{File, FileAction, files_of, folders_of, steps_of, after_step, after_steps, WritesTo, IsMidAfter}
 use Rattle.cdb_crash.specs.Recovery.{after_removals, AreLeft, after_barrier}
 use Rattle.cdb_crash.specs.Crash.{IsClear, with_folder, head_filled, head_renamed, head_synced, IsAlone, IsWhole, IsClean, IsMid, HasRoom, IsEither, IsFaulted, IsClearing, IsReadyForHead}
+use Rattle.cdb_model.specs.declared.limits.TheConstants.{MOST_VERSIONS}
 
 -- Whatever a crash leaves inside a call, after it where it is Ok, and after it where it fails, is of a kind.
 pub record CallKeeps (Kind : FileMap → Type 0) (old after : State) (Failed : State → Type 0) : Type 0 where
@@ -56,10 +57,10 @@ pub record ClearStays : Type 0 where
 -- folders, and neither head under any.
 pub record OwnPaths : Type 0 where
   pub files : (earlier : List (List Source)) (sources : List Source) (tiles : List Tile) (path : Text) (bytes : List ℕ)
-      → length earlier + 1 ≤ 4097 → IsVersionFile earlier sources tiles path bytes → IsOfVersion (length earlier + 1) path
-  pub apart : (j k : ℕ) (path : Text) → j ≤ 4097 → k ≤ 4097 → IsOfVersion j path → IsOfVersion k path → j ≡ k
-  pub head : (k : ℕ) → k ≤ 4097 → IsOfVersion k head_path → ⊥
-  pub new_head : (k : ℕ) → k ≤ 4097 → IsOfVersion k new_head_path → ⊥
+      → length earlier + 1 ≤ MOST_VERSIONS + 1 → IsVersionFile earlier sources tiles path bytes → IsOfVersion (length earlier + 1) path
+  pub apart : (j k : ℕ) (path : Text) → j ≤ MOST_VERSIONS + 1 → k ≤ MOST_VERSIONS + 1 → IsOfVersion j path → IsOfVersion k path → j ≡ k
+  pub head : (k : ℕ) → k ≤ MOST_VERSIONS + 1 → IsOfVersion k head_path → ⊥
+  pub new_head : (k : ℕ) → k ≤ MOST_VERSIONS + 1 → IsOfVersion k new_head_path → ⊥
 
 -- A disk that was never written.
 abbrev pub empty_disk : State

@@ -2,12 +2,14 @@
 use Rattle.std.specs.Prelude.{◌≡◌, ℕ, ◌+◌, ◌*◌, ◌<◌, ◌≤◌, List, [], ◌∷◌, ◌++◌, length, Result, Ok, Err}
 use Rattle.cdb_grid.specs.declared.tile.Tile.{Tile}
 use Rattle.cdb_source.specs.declared.head.SourceHead.{SourceHead}
+use Rattle.cdb_source.specs.declared.limits.TheConstants.{MOST_LOAD}
 use Rattle.cdb_source.specs.Texts.{count_bytes, head_text}
 use Rattle.cdb_manifest.specs.declared.record_.Record.{Record}
 use Rattle.cdb_manifest.specs.declared.record_error.RecordError.{RecordError}
 use Rattle.cdb_manifest.specs.declared.record_error.RecordError.TheVariants.{Memory, Bad}
 use Rattle.cdb_model.specs.Records.{record_first_bytes, version_text, sources_text, record_front_text, heads_text, entries_text, entry_text}
 use Rattle.cdb_manifest.specs.Entries.{Ascending}
+use Rattle.cdb_model.specs.declared.limits.TheConstants.{MOST_VERSIONS}
 
 -- the fields of a record up to some field: up to the first bytes, the version, the number of sources, one of the heads
 -- that aren't all there yet, and one of the tiles
@@ -29,7 +31,7 @@ fields_text (to_head version sources tiles heads) = record_front_text version so
 fields_text (to_entry version tiles heads entries) = record_front_text version (length heads) tiles ++ heads_text heads ++ entries_text entries
 
 abbrev pub IsVersion : ℕ → Type 0
-IsVersion version = (1 ≤ version) × (version ≤ 4096)
+IsVersion version = (1 ≤ version) × (version ≤ MOST_VERSIONS)
 
 abbrev pub IsSources : ℕ → Type 0
 IsSources sources = (1 ≤ sources) × (sources ≤ 64)
@@ -40,8 +42,8 @@ AreOfForm no_field = Unit {0}
 AreOfForm to_first = Unit {0}
 AreOfForm (to_version version) = IsVersion version
 AreOfForm (to_sources version sources) = IsVersion version × IsSources sources
-AreOfForm (to_head version sources tiles heads) = IsVersion version × IsSources sources × (tiles ≤ 16384) × (length heads < sources)
-AreOfForm (to_entry version tiles heads entries) = IsVersion version × IsSources (length heads) × (tiles ≤ 16384) × (length entries ≤ tiles) × Ascending entries
+AreOfForm (to_head version sources tiles heads) = IsVersion version × IsSources sources × (tiles ≤ MOST_LOAD) × (length heads < sources)
+AreOfForm (to_entry version tiles heads entries) = IsVersion version × IsSources (length heads) × (tiles ≤ MOST_LOAD) × (length entries ≤ tiles) × Ascending entries
 
 -- the bytes of a number from least to most
 abbrev pub IsNumberField : ℕ → ℕ → List ℕ → Type 0
@@ -54,9 +56,9 @@ IsEntryAfter tiles text = (tile : Tile) × (Ascending (tiles ++ tile ∷ []) × 
 -- a text that the next field may have; after the last tile there is none
 abbrev pub IsNextField : Fields → List ℕ → Type 0
 IsNextField no_field text = text ≡ record_first_bytes
-IsNextField to_first text = IsNumberField 1 4096 text
+IsNextField to_first text = IsNumberField 1 MOST_VERSIONS text
 IsNextField (to_version version) text = IsNumberField 1 64 text
-IsNextField (to_sources version sources) text = IsNumberField 0 16384 text
+IsNextField (to_sources version sources) text = IsNumberField 0 MOST_LOAD text
 IsNextField (to_head version sources tiles heads) text = (head : SourceHead) × (text ≡ head_text head)
 IsNextField (to_entry version tiles heads entries) text = (length entries < tiles) × IsEntryAfter entries text
 

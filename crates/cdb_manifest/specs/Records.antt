@@ -7,6 +7,7 @@ use Rattle.cdb_model.specs.Publications.{heads_of}
 use Rattle.cdb_model.specs.Stands.{IsPublication}
 use Rattle.cdb_manifest.specs.declared.record_.Record.{Record}
 use Rattle.cdb_model.specs.Records.{record_text}
+use Rattle.cdb_model.specs.declared.limits.TheConstants.{MOST_VERSIONS}
 
 -- the text of a record
 abbrev pub record_bytes : Record → List ℕ
@@ -14,5 +15,5 @@ record_bytes item = record_text item.version item.heads item.tiles
 
 -- the text of each publication's record is that of a record
 abbrev pub PublicationsHaveRecords : Type 0
-PublicationsHaveRecords = (version : ℕ) (sources : List Source) (tiles : List Tile) → 1 ≤ version → version ≤ 4096 → IsPublication sources → IsTouched (heads_of sources) tiles
+PublicationsHaveRecords = (version : ℕ) (sources : List Source) (tiles : List Tile) → 1 ≤ version → version ≤ MOST_VERSIONS → IsPublication sources → IsTouched (heads_of sources) tiles
     → (item : Record) × (record_bytes item ≡ record_text version (heads_of sources) tiles)

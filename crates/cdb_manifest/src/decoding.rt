@@ -6,15 +6,15 @@ ghost use Rattle.cdb_manifest.specs.Records.{record_bytes};
 ghost use Rattle.cdb_manifest.specs.Entries.{Ascending};
 ghost use Rattle.cdb_manifest.specs.Decoding.{RecordCause, GivesRecord};
 ghost use Rattle.cdb_manifest.specs.inside.Decoding.{IsFront, TellsHead, TellsEntry};
+ghost use Rattle.cdb_source.specs.declared.limits.TheConstants.{MOST_LOAD};
 
 use crate::entry::entry_at;
 use crate::fields::{after_first, head_at, number_at};
-use crate::limits::{
-    ENTRY_BYTES, FRONT_BYTES, HEAD_BYTES, MOST_SOURCES, MOST_TILES, MOST_VERSIONS,
-};
+use crate::limits::{ENTRY_BYTES, FRONT_BYTES, HEAD_BYTES, MOST_SOURCES, MOST_TILES};
 use crate::record_::{Heads, Record, Tiles};
 use crate::record_error::RecordError;
 use cdb_grid::Tile;
+use cdb_model::MOST_VERSIONS;
 use cdb_source::SourceHead;
 use std::alloc::Global;
 use std::cmp::Ordering;
@@ -100,7 +100,7 @@ fn entries_at(
     start: u32,
     bytes: &[u8],
 ) -> Result<(Vec<Tile>, &[u8]), RecordError>
-    requires count { count ≤ 16384 }
+    requires count { count ≤ MOST_LOAD }
     requires start { start ≤ 2836 }
     ensures read { IfOk result (λ p. bytes.now ≡ entries_text p.0.items ++ p.1.now) }
     ensures ordered { IfOk result (λ p. Ascending p.0.items) }

@@ -6,7 +6,7 @@ ghost use Rattle.cdb_model.specs.Records.{record_first_bytes};
 ghost use Rattle.cdb_manifest.specs.Decoding.{IsNumberField};
 
 use crate::encoding::FIRST_BYTES;
-use cdb_source::{SourceHead, decode_head};
+use cdb_source::{SOURCE_FRONT_BYTES, SourceHead, decode_head};
 
 /// What follows the first bytes.
 pub(crate) fn after_first(bytes: &[u8]) -> Option<&[u8]>
@@ -32,11 +32,11 @@ pub(crate) fn number_at(bytes: &[u8], least: u32, most: u32) -> Option<(u32, &[u
 }
 
 /// The text of a head as it stands in a source file.
-fn front_of(text: &[u8]) -> [u8; 52]
+fn front_of(text: &[u8]) -> [u8; SOURCE_FRONT_BYTES]
     requires { length text.now ≡ 44 }
     ensures { result ≡ source_texts.source_first_bytes ++ text.now }
 {
-    let mut front = [0; 52];
+    let mut front = [0; SOURCE_FRONT_BYTES];
     let (first, rest) = front.split_at_mut(8);
     first.copy_from_slice(&cdb_source::FIRST_BYTES);
     rest.copy_from_slice(text);

@@ -2,14 +2,14 @@
 ghost use Rattle.std.specs.Prelude.{◌≡◌, ℕ, ◌≤◌, Some, IfSome};
 ghost use Rattle.cdb_model.specs.Records.{head_file_text};
 
-use crate::limits::MOST_VERSIONS;
 use arrayvec::ArrayString;
+use cdb_model::MOST_VERSIONS;
 use itoa::Buffer;
 
 /// The text of the file for a version: the number without leading zeros, and a line feed.
 pub fn write_head(n: u32) -> ArrayString<8>
     requires least { 1 ≤ n }
-    requires most { n ≤ 4096 }
+    requires most { n ≤ MOST_VERSIONS }
     ensures { result.bytes ≡ head_file_text n }
 {
     let mut text = ArrayString::new();
@@ -22,8 +22,8 @@ pub fn write_head(n: u32) -> ArrayString<8>
 /// 1 to 4,096.
 pub fn read_head(bytes: &[u8]) -> Option<u32>
     ensures spelled { IfSome result (λ n. bytes.now ≡ head_file_text n) }
-    ensures range { IfSome result (λ n. (1 ≤ n) × (n ≤ 4096)) }
-    ensures only { (n : ℕ) → 1 ≤ n → n ≤ 4096 → bytes.now ≡ head_file_text n → result ≡ Some n }
+    ensures range { IfSome result (λ n. (1 ≤ n) × (n ≤ MOST_VERSIONS)) }
+    ensures only { (n : ℕ) → 1 ≤ n → n ≤ MOST_VERSIONS → bytes.now ≡ head_file_text n → result ≡ Some n }
 {
     let text = str::from_utf8(bytes).ok()?;
     let n = text.strip_suffix('\n')?.parse::<u32>().ok()?;

@@ -14,7 +14,7 @@ mod record_error;
 pub use decoding::decode;
 pub use encoding::encode;
 pub use head_file::{read_head, write_head};
-pub use limits::{MOST_SOURCES, MOST_TILES, MOST_VERSIONS, RECORD_BYTES};
+pub use limits::{MOST_SOURCES, RECORD_BYTES};
 pub use record_::{Heads, Record, Tiles};
 pub use record_error::RecordError;
 

@@ -1,13 +1,12 @@
 //! How large a record is at most.
 
-/// The greatest version that a store can have.
-pub const MOST_VERSIONS: u32 = 4_096;
+use cdb_source::MOST_LOAD;
 
 /// The greatest number of sources of a publication.
 pub const MOST_SOURCES: u32 = 64;
 
-/// The greatest number of tiles of a publication.
-pub const MOST_TILES: u32 = 16_384;
+/// The greatest number of tiles of a publication, as a record has it.
+pub(crate) const MOST_TILES: u32 = MOST_LOAD as u32;
 
 /// How many bytes a record has before its heads.
 pub(crate) const FRONT_BYTES: u32 = 20;

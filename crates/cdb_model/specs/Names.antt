@@ -6,6 +6,7 @@ use Rattle.cdb_grid.specs.declared.family.Family.{Family}
 use Rattle.cdb_grid.specs.declared.family.Family.TheVariants.{Elev, Low, High, Mat}
 use Rattle.cdb_grid.specs.declared.tile.Tile.{Tile}
 pub use Rattle.cdb_model.specs.Text.{Text}
+use Rattle.cdb_model.specs.declared.limits.TheConstants.{MOST_VERSIONS}
 
 -- a number below 100 in two digits, one below 1,000 in three, one below 10,000 in four, and one below 100,000,000 in eight
 abbrev pub two : ℕ → Text
@@ -131,7 +132,7 @@ pub record VersionTile : Type 0 where
   pub version : ℕ
   pub tile : Tile
   pub from_one : 1 ≤ version
-  pub to_last : version ≤ 4096
+  pub to_last : version ≤ MOST_VERSIONS
 
 -- the fields of a path: the folders, each with its slash, and the fields of the file name
 abbrev pub fields_of_path : ℕ → Tile → List Text

@@ -6,8 +6,10 @@ use Rattle.cdb_grid.specs.declared.tile.Tile.{Tile}
 use Rattle.cdb_source.specs.Reached.{IsTouched, IsLoad}
 use Rattle.cdb_source.specs.declared.head.SourceHead.{SourceHead}
 use Rattle.cdb_source.specs.declared.source.Source.{Source}
+use Rattle.cdb_source.specs.declared.limits.TheConstants.{MOST_LOAD}
 use Rattle.cdb_model.specs.Maps.{Text, folder_above}
 use Rattle.cdb_model.specs.Names.{source_path, path}
+use Rattle.cdb_model.specs.declared.limits.TheConstants.{MOST_VERSIONS}
 
 -- ---- what a publication is
 
@@ -48,7 +50,7 @@ pub record IsPublication (x : Publication) : Type 0 where
   pub few : length (sources_in x) ≤ 64
   pub load : ℕ
   pub load_is : HasLoad x load
-  pub fits : load ≤ 16384
+  pub fits : load ≤ MOST_LOAD
 
 -- the tiles that publications touch, each counted as often as it is touched
 abbrev pub IsEntryCount : List Publication → ℕ → Type 0
@@ -59,7 +61,7 @@ IsEntryCount (x ∷ list) count =
 -- at most 4,096 publications, which touch at most 1,000,000 tiles together
 pub record ArePublications (list : List Publication) : Type 0 where
   pub each : All IsPublication list
-  pub few : length list ≤ 4096
+  pub few : length list ≤ MOST_VERSIONS
   pub entries : ℕ
   pub entries_are : IsEntryCount list entries
   pub entries_fit : entries ≤ 1000000

@@ -3,6 +3,7 @@
 use Rattle.std.specs.Prelude.{◌≡◌, ◌≢◌, ℕ, zero, suc, ◌+◌, ◌-◌, ◌≤◌, ◌<◌, ◌⊎◌, List, [], ◌∷◌, ◌++◌, length, Option, Some, None, IsSome}
 use Rattle.cdb_grid.specs.declared.tile.Tile.{Tile}
 use Rattle.cdb_source.specs.declared.source.Source.{Source}
+use Rattle.cdb_source.specs.declared.limits.TheConstants.{MOST_LOAD}
 use Rattle.cdb_tiff_base.specs.Numbers.{Bytes}
 use Rattle.cdb_model.specs.Events as machine
 use Rattle.cdb_model.specs.Events.{Event, Answer, IsLong, IsSyntax, IsName}
@@ -14,6 +15,7 @@ use Rattle.cdb_model.specs.Sessions.{session_of, without}
 use Rattle.cdb_model.specs.Spelled.{SpellsSource, SpellsLoaded}
 use Rattle.cdb_model.specs.Stores.{Kind}
 use Rattle.cdb_model.specs.declared.session.Session.{Session}
+use Rattle.cdb_model.specs.declared.limits.TheConstants.{MOST_VERSIONS}
 
 -- ---- the state
 
@@ -116,7 +118,7 @@ module _ (k : Kind) where
     pub pending : IsPendingIn s
     pub load : ℕ
     pub load_is : HasLoad (publication_of s.pending) load
-    pub fits : load ≤ 16384
+    pub fits : load ≤ MOST_LOAD
     pub touched : Touches (publication_of s.pending) tiles
     pub earlier : ℕ
     pub earlier_is : k.HasEntries s.list earlier
@@ -128,7 +130,7 @@ module _ (k : Kind) where
     pub entries : ℕ
     pub planned : IsPlannedIn old tiles entries
     pub entries_fit : entries ≤ 1000000
-    pub versions_fit : k.versions old.list < 4096
+    pub versions_fit : k.versions old.list < MOST_VERSIONS
     pub files_are : files ≡ length tiles
     pub version_is : version ≡ k.versions old.list + 1
     pub publication : k.Planned
@@ -147,7 +149,7 @@ module _ (k : Kind) where
     pub entries : ℕ
     pub planned : IsPlannedIn s tiles entries
     pub entries_fit : entries ≤ 1000000
-    pub many : k.versions s.list ≡ 4096
+    pub many : k.versions s.list ≡ MOST_VERSIONS
 
   -- a publication is asked for
   abbrev pub PublishLineIn : StateIn k → Answer → StateIn k → Type 0
@@ -156,7 +158,7 @@ module _ (k : Kind) where
   PublishLineIn old machine.busy new = IsBusyIn old × (new ≡ old)
   PublishLineIn old machine.nothing new = IsIdleIn old × (old.pending ≡ []) × (new ≡ old)
   PublishLineIn old (machine.large load) new =
-      IsPendingIn old × HasLoad (publication_of old.pending) load × (16384 < load) × (new ≡ old)
+      IsPendingIn old × HasLoad (publication_of old.pending) load × (MOST_LOAD < load) × (new ≡ old)
   PublishLineIn old (machine.entries count) new = HasEntriesIn old count × (new ≡ old)
   PublishLineIn old machine.full_of_versions new = IsFullOfVersionsIn old × (new ≡ old)
   PublishLineIn old machine.memory new = IsPendingIn old × (new ≡ old)

@@ -12,10 +12,7 @@ use crate::fields::{read_after, read_latitude, read_longitude, read_numbered};
 use crate::folder::{DatasetFolder, Folder, level_folder};
 use crate::reading::{field_of, read_name_in};
 use cdb_grid::{Geocell, Level, Tile, tiles_across};
-use cdb_model::NameError;
-
-/// The greatest version that a store can have.
-const MOST_VERSIONS: u32 = 4_096;
+use cdb_model::{MOST_VERSIONS, NameError};
 
 #[tactic(auto, unfolding(crate::specs::inside::Fields::four_at))]
 fn read_four(text: &[u8]) -> Option<(u32, &[u8])>
@@ -189,9 +186,9 @@ fn read_whole_path(text: &[u8]) -> Result<(u32, Tile), NameError>
 /// OGC CDB 1.2 Volume 1, tile naming. Else the error's `place` is the byte of
 /// the text, from 0, at which its first wrong field begins.
 pub fn read_path(text: &[u8]) -> Result<(u32, Tile), NameError>
-    ensures version { IfOk result (λ p. (1 ≤ p.0) × (p.0 ≤ 4096)) }
+    ensures version { IfOk result (λ p. (1 ≤ p.0) × (p.0 ≤ MOST_VERSIONS)) }
     ensures found { IfOk result (λ p. text.now ≡ path p.0 p.1) }
-    ensures only { (version : ℕ) (t : Tile) → 1 ≤ version → version ≤ 4096 → text.now ≡ path version t → result ≡ Ok (version, t) }
+    ensures only { (version : ℕ) (t : Tile) → 1 ≤ version → version ≤ MOST_VERSIONS → text.now ≡ path version t → result ≡ Ok (version, t) }
     ensures wrong { IfErr result (λ e. FirstWrong path_fields text.now e.place) }
 {
     read_whole_path(text)

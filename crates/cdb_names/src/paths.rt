@@ -2,6 +2,7 @@
 ghost use Rattle.std.specs.Prelude.{◌≡◌, ◌+◌, ◌<◌, ◌≤◌, ◌++◌, length};
 ghost use Rattle.arrayvec.specs.ArrayString.{array_string_len};
 ghost use Rattle.cdb_model.specs.Names.{version_folder, tile_folder, path, source_path, record_path, sources_folder, metadata_folder};
+ghost use Rattle.cdb_model.specs.declared.limits.TheConstants.{MOST_VERSIONS};
 
 use crate::writing::{
     push_dataset_folder, push_eight, push_four, push_latitude, push_level_folder, push_longitude,
@@ -13,7 +14,7 @@ use cdb_grid::Tile;
 /// The folder of a version: `V` and eight digits.
 pub fn version_folder(version: u32) -> ArrayString<128>
     requires from_one { 1 ≤ version }
-    requires to_next { version ≤ 4097 }
+    requires to_next { version ≤ MOST_VERSIONS + 1 }
     ensures { result.bytes ≡ version_folder version }
 {
     let mut text = ArrayString::new();
@@ -22,7 +23,7 @@ pub fn version_folder(version: u32) -> ArrayString<128>
 }
 
 fn push_version(text: &mut ArrayString<128>, version: u32)
-    requires small { version ≤ 4097 }
+    requires small { version ≤ MOST_VERSIONS + 1 }
     requires room { array_string_len text.old + 9 ≤ 128 }
     ensures bytes { text.new.bytes ≡ text.old.bytes ++ version_folder version }
     ensures len { array_string_len text.new ≡ array_string_len text.old + 9 }
@@ -32,7 +33,7 @@ fn push_version(text: &mut ArrayString<128>, version: u32)
 }
 
 fn push_folder(text: &mut ArrayString<128>, version: u32, tile: &Tile)
-    requires small { version ≤ 4097 }
+    requires small { version ≤ MOST_VERSIONS + 1 }
     requires room { array_string_len text.old ≡ 0 }
     ensures bytes { text.new.bytes ≡ text.old.bytes ++ tile_folder version tile.now }
     ensures len { array_string_len text.new ≤ 58 }
@@ -54,7 +55,7 @@ fn push_folder(text: &mut ArrayString<128>, version: u32, tile: &Tile)
 /// hierarchy of tiled datasets).
 pub fn folder_of(version: u32, tile: &Tile) -> ArrayString<128>
     requires from_one { 1 ≤ version }
-    requires to_last { version ≤ 4096 }
+    requires to_last { version ≤ MOST_VERSIONS }
     ensures { result.bytes ≡ tile_folder version tile.now }
 {
     let mut text = ArrayString::new();
@@ -66,7 +67,7 @@ pub fn folder_of(version: u32, tile: &Tile) -> ArrayString<128>
 /// hierarchy of tiled datasets).
 pub fn write_path(version: u32, tile: &Tile) -> ArrayString<128>
     requires from_one { 1 ≤ version }
-    requires to_last { version ≤ 4096 }
+    requires to_last { version ≤ MOST_VERSIONS }
     ensures { result.bytes ≡ path version tile.now }
 {
     let mut text = ArrayString::new();
@@ -79,7 +80,7 @@ pub fn write_path(version: u32, tile: &Tile) -> ArrayString<128>
 /// The folder of a version's source files.
 pub fn sources_folder(version: u32) -> ArrayString<128>
     requires from_one { 1 ≤ version }
-    requires to_last { version ≤ 4096 }
+    requires to_last { version ≤ MOST_VERSIONS }
     ensures { result.bytes ≡ sources_folder version }
 {
     let mut text = ArrayString::new();
@@ -91,7 +92,7 @@ pub fn sources_folder(version: u32) -> ArrayString<128>
 /// The path of a version's source file of this number.
 pub fn source_path(version: u32, number: u32) -> ArrayString<128>
     requires from_one { 1 ≤ version }
-    requires to_last { version ≤ 4096 }
+    requires to_last { version ≤ MOST_VERSIONS }
     requires number_from_one { 1 ≤ number }
     requires number_to_last { number ≤ 64 }
     ensures { result.bytes ≡ source_path version number }
@@ -106,7 +107,7 @@ pub fn source_path(version: u32, number: u32) -> ArrayString<128>
 /// The folder of a version's record.
 pub fn metadata_folder(version: u32) -> ArrayString<128>
     requires from_one { 1 ≤ version }
-    requires to_last { version ≤ 4096 }
+    requires to_last { version ≤ MOST_VERSIONS }
     ensures { result.bytes ≡ metadata_folder version }
 {
     let mut text = ArrayString::new();
@@ -118,7 +119,7 @@ pub fn metadata_folder(version: u32) -> ArrayString<128>
 /// The path of a version's record.
 pub fn record_path(version: u32) -> ArrayString<128>
     requires from_one { 1 ≤ version }
-    requires to_last { version ≤ 4096 }
+    requires to_last { version ≤ MOST_VERSIONS }
     ensures { result.bytes ≡ record_path version }
 {
     let mut text = ArrayString::new();

@@ -3,6 +3,7 @@ use Rattle.std.specs.Prelude.{◌≡◌, ℕ, ◌+◌, ◌*◌, ◌≤◌, Bool,
 use Rattle.std.specs.Ordering.{int_eq}
 use Rattle.cdb_grid.specs.declared.tile.Tile.{Tile}
 use Rattle.cdb_source.specs.declared.head.SourceHead.{SourceHead}
+use Rattle.cdb_source.specs.declared.limits.TheConstants.{SOURCE_FRONT_BYTES}
 use Rattle.cdb_model.specs.Names.{source_path}
 use Rattle.cdb_cut.specs.Window.{IsWindow, has_window}
 use Rattle.cdb_publish.specs.Needs.{Need}
@@ -13,7 +14,7 @@ takes_rows head t = int_eq head.level.number t.level.number && has_window head t
 
 -- The length of a source's file.
 abbrev pub source_size : SourceHead → ℕ
-source_size head = 52 + 2 * (head.rows * head.cols)
+source_size head = SOURCE_FRONT_BYTES + 2 * (head.rows * head.cols)
 
 -- What is to be read of a version's source of this number.
 abbrev pub window_need : ℕ → ℕ → SourceHead → Tile → List Need

@@ -11,6 +11,7 @@ ghost use Rattle.cdb_files.specs.Moments.{AddsOnly, Elapses, IsBetween};
 ghost use Rattle.cdb_files.specs.Whole.{after_fill, WritesOnly};
 ghost use Rattle.cdb_crash.specs.Crash.{IsClean, IsReadyForHead, IsEither, head_filled, head_synced};
 ghost use Rattle.cdb_crash.specs.Leftovers.{HasNext};
+ghost use Rattle.cdb_model.specs.declared.limits.TheConstants.{MOST_VERSIONS};
 
 use crate::paths::{head, new_head, root};
 use cdb_files::{Disk, Failed, fill};
@@ -64,7 +65,7 @@ fn sync_root<D: Disk>(disk: &mut D) -> Result<(), Failed>
 /// the root is synced.
 pub(crate) fn publish_head<D: Disk>(disk: &mut D, version: u32) -> Result<(), Failed>
     requires least { 1 ≤ version }
-    requires most { version ≤ 4096 }
+    requires most { version ≤ MOST_VERSIONS }
     ensures clean { D.tells → (P : List (List sources.Source)) (x : List sources.Source) → version ≡ length P + 1
         → IsReadyForHead Stands HasNext P x (D.state disk.old) → OnOk result (IsClean Stands (P ++ x ∷ [])
         (D.state disk.new)) }

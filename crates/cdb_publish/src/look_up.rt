@@ -3,6 +3,7 @@ ghost use Rattle.std.specs.Prelude.{◌≡◌, ◌≤◌, IfSome};
 ghost use Rattle.cdb_manifest.specs.Entries.{Ascending};
 ghost use Rattle.cdb_chain.specs.LookUps.{is_listed};
 ghost use Rattle.cdb_publish.specs.LookUps.{look_before, look};
+ghost use Rattle.cdb_model.specs.declared.limits.TheConstants.{MOST_VERSIONS};
 
 use crate::plan::Plan;
 use cdb_chain::Chain;
@@ -23,7 +24,7 @@ fn is_listed(tiles: &[Tile], tile: &Tile) -> bool
 pub(crate) fn look_before(plan: &Plan, chain: &Chain, tile: &Tile) -> Option<u32>
     ensures named { result ≡ look_before plan.now chain.now.records tile.now }
     ensures least { IfSome result (λ v. 1 ≤ v) }
-    ensures most { IfSome result (λ v. v ≤ 4096) }
+    ensures most { IfSome result (λ v. v ≤ MOST_VERSIONS) }
 {
     chain.find(plan.record.version - 1, tile)
 }
@@ -32,7 +33,7 @@ pub(crate) fn look_before(plan: &Plan, chain: &Chain, tile: &Tile) -> Option<u32
 pub(crate) fn look(plan: &Plan, chain: &Chain, tile: &Tile) -> Option<u32>
     ensures named { result ≡ look plan.now chain.now.records tile.now }
     ensures least { IfSome result (λ v. 1 ≤ v) }
-    ensures most { IfSome result (λ v. v ≤ 4096) }
+    ensures most { IfSome result (λ v. v ≤ MOST_VERSIONS) }
 {
     if is_listed(plan.record.tiles.as_slice(), tile) {
         return Some(plan.record.version);

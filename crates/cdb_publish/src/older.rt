@@ -9,6 +9,7 @@ ghost use Rattle.cdb_publish.specs.Causes.{IsCaused};
 ghost use Rattle.cdb_publish.specs.LookUps.{look_before, needs_of};
 ghost use Rattle.cdb_publish.specs.inside.LookUps.{IsNamed};
 ghost use Rattle.cdb_publish.specs.Needs.{TellsSizes, IsDamage};
+ghost use Rattle.cdb_model.specs.declared.limits.TheConstants.{MOST_TILE_BYTES, MOST_TILE_VALUES};
 
 use crate::errors::StepError;
 use crate::look_up::look_before;
@@ -30,8 +31,8 @@ pub(crate) fn fill_older<D: Disk>(
     frame: &mut [i16],
     disk: &mut D,
 ) -> Result<(), StepError>
-    requires bytes { 2097338 ≤ length bytes.old }
-    requires scratch { 1048576 ≤ length scratch.old }
+    requires bytes { MOST_TILE_BYTES ≤ length bytes.old }
+    requires scratch { MOST_TILE_VALUES ≤ length scratch.old }
     requires frame { length frame.old ≡ tile_side tile.now * tile_side tile.now }
     ensures filled { D.tells → (ss x : List given.Source) → IsOwn tile.now.family
         → IsNamed (D.state disk.old).present ss tile.now (look_before plan.now chain.now.records tile.now)

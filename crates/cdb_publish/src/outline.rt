@@ -15,18 +15,13 @@ use crate::plan::Plan;
 use cdb_chain::Chain;
 use cdb_grid::Tile;
 use cdb_manifest::{Heads, Record, Tiles, encode};
-use cdb_source::{Source, SourceHead};
+use cdb_model::MOST_VERSIONS;
+use cdb_source::{MOST_LOAD, Source, SourceHead};
 use cdb_touch::{TouchError, load, touched};
 use std::alloc::{AllocError, Global};
 
-/// The greatest load of a publication.
-const LOAD_LIMIT: u128 = 16_384;
-
 /// The most tile entries of all records of a store together.
 const ENTRY_LIMIT: u32 = 1_000_000;
-
-/// The most versions of a store.
-const VERSION_LIMIT: u32 = 4096;
 
 /// The heads of sources, in their order.
 fn heads(alloc: Global, sources: &[Source]) -> Result<Vec<SourceHead>, AllocError>
@@ -38,7 +33,7 @@ fn heads(alloc: Global, sources: &[Source]) -> Result<Vec<SourceHead>, AllocErro
 /// The tiles that the sources touch, where their load is within its limit.
 fn touch(alloc: Global, heads: &[SourceHead]) -> Result<Vec<Tile>, PlanError>
     ensures touched { IfOk result (λ tiles. IsTouched heads.now tiles.items) }
-    ensures few { IfOk result (λ tiles. length tiles.items ≤ 16384) }
+    ensures few { IfOk result (λ tiles. length tiles.items ≤ MOST_LOAD) }
     ensures light { IfOk result (λ tiles. IsLight heads.now) }
     ensures refused { IfErr result (IsTooHeavy heads.now) }
 {
@@ -47,7 +42,7 @@ fn touch(alloc: Global, heads: &[SourceHead]) -> Result<Vec<Tile>, PlanError>
         Err(TouchError::Memory) => return Err(PlanError::Memory),
         Err(TouchError::Large { count }) => return Err(PlanError::Large { count }),
     };
-    prove!(load(heads) <= LOAD_LIMIT);
+    prove!(load(heads) <= MOST_LOAD);
     Ok(tiles)
 }
 
@@ -74,7 +69,7 @@ pub(crate) fn outline(alloc: Global, chain: &Chain, sources: &[Source]) -> Resul
     if count > ENTRY_LIMIT {
         return Err(PlanError::Entries { count });
     }
-    if newest == VERSION_LIMIT {
+    if newest == MOST_VERSIONS {
         return Err(PlanError::Versions);
     }
     let record = Record {

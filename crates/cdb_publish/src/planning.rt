@@ -18,14 +18,9 @@ use crate::room::largest_window;
 use crate::work::Work;
 use cdb_chain::Chain;
 use cdb_files::Disk;
+use cdb_model::{MOST_TILE_VALUES, TILE_HEAD_BYTES};
 use cdb_source::Source;
 use std::alloc::{AllocError, Global};
-
-/// The values of the largest tile: 1,024 rows of 1,024.
-const LARGEST_TILE: usize = 1_048_576;
-
-/// The bytes of a tile's file before its values.
-const HEAD_BYTES: usize = 186;
 
 /// A publication that wasn't begun, with its sources.
 #[derive(Debug, Drop)]
@@ -40,9 +35,9 @@ fn frames(alloc: Global, plan: &Plan) -> Result<Frames, AllocError>
     ensures { IfOk result (IsReady plan.now) }
 {
     let window = largest_window(plan.record.heads.as_slice(), plan.record.tiles.as_slice());
-    let room = window.max(LARGEST_TILE);
-    let bytes = vec![in alloc; 0; 2 * room + HEAD_BYTES]?;
-    let posts = vec![in alloc; 0; LARGEST_TILE]?;
+    let room = window.max(MOST_TILE_VALUES);
+    let bytes = vec![in alloc; 0; 2 * room + TILE_HEAD_BYTES]?;
+    let posts = vec![in alloc; 0; MOST_TILE_VALUES]?;
     let scratch = vec![in alloc; 0; room]?;
     Ok(Frames {
         bytes,

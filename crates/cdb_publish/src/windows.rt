@@ -14,6 +14,7 @@ ghost use Rattle.cdb_publish.specs.Causes.{IsCaused};
 ghost use Rattle.cdb_publish.specs.Needs.{TellsSizes, IsDamage};
 ghost use Rattle.cdb_publish.specs.Windows.{source_size, window_need, window_needs, HasRoomFor, HasRoom};
 ghost use Rattle.cdb_publish.specs.inside.Windows.{HasSources};
+ghost use Rattle.cdb_model.specs.declared.limits.TheConstants.{MOST_VERSIONS};
 
 use crate::errors::StepError;
 use crate::plan::Plan;
@@ -22,10 +23,7 @@ use cdb_cut::{Rows, paint, window};
 use cdb_files::Disk;
 use cdb_grid::Tile;
 use cdb_names::source_path;
-use cdb_source::{SourceHead, decode_posts};
-
-/// The bytes of a source's file before its posts.
-const HEAD_BYTES: u64 = 52;
+use cdb_source::{SOURCE_FRONT_BYTES, SourceHead, decode_posts};
 
 /// Reads rows of a version's source from its file.
 fn read_rows<D: Disk>(
@@ -38,7 +36,7 @@ fn read_rows<D: Disk>(
     disk: &mut D,
 ) -> Result<(), StepError>
     requires least { 1 ≤ version }
-    requires most { version ≤ 4096 }
+    requires most { version ≤ MOST_VERSIONS }
     requires from_one { 1 ≤ number }
     requires to_last { number ≤ 64 }
     requires within { rows.first + rows.count ≤ head.now.rows }
@@ -57,8 +55,8 @@ fn read_rows<D: Disk>(
 {
     let path = source_path(version, number);
     let cols = head.cols as u64;
-    let size = HEAD_BYTES + 2 * (head.rows as u64 * cols);
-    let at = HEAD_BYTES + 2 * (rows.first as u64 * cols);
+    let size = SOURCE_FRONT_BYTES as u64 + 2 * (head.rows as u64 * cols);
+    let at = SOURCE_FRONT_BYTES as u64 + 2 * (rows.first as u64 * cols);
     match read_part(disk, &path, size, at, bytes) {
         Ok(()) => {}
         Err(error) => return Err(error),

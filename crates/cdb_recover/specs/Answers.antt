@@ -10,16 +10,17 @@ use Rattle.cdb_crash.specs.Crash.{IsClean}
 use Rattle.cdb_crash.specs.Leftovers.{IsOfVersion, IsLeftover, HasAtMost}
 use Rattle.cdb_recover.specs.declared.recover_error.RecoverError.{RecoverError}
 use Rattle.cdb_recover.specs.declared.recover_error.RecoverError.TheVariants.{Fault, NotAStore}
+use Rattle.cdb_model.specs.declared.limits.TheConstants.{MOST_VERSIONS}
 
 -- The file that names the newest version names this one: 0 where there is no file.
 abbrev pub NamesNewest : Content → ℕ → Type 0
 NamesNewest None newest = newest ≡ 0
-NamesNewest (Some bytes) newest = (1 ≤ newest) × (newest ≤ 4096) × (bytes ≡ head_file_text newest)
+NamesNewest (Some bytes) newest = (1 ≤ newest) × (newest ≤ MOST_VERSIONS) × (bytes ≡ head_file_text newest)
 
 -- The file is there, and names no version.
 abbrev pub NamesNone : Content → Type 0
 NamesNone None = ⊥
-NamesNone (Some bytes) = (newest : ℕ) → 1 ≤ newest → newest ≤ 4096 → bytes ≡ head_file_text newest → ⊥
+NamesNone (Some bytes) = (newest : ℕ) → 1 ≤ newest → newest ≤ MOST_VERSIONS → bytes ≡ head_file_text newest → ⊥
 
 -- The newest version is named, and there are more than 65,536 files under the next one.
 pub record HasTooMany (m : FileMap) (version place : ℕ) : Type 0 where

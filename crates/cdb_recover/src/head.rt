@@ -3,6 +3,7 @@ ghost use Rattle.cdb_model.specs.Causes.{Rose};
 ghost use Rattle.cdb_model.specs.Names.{head_path};
 ghost use Rattle.cdb_files.specs.Moments.{Rests};
 ghost use Rattle.cdb_recover.specs.inside.Answers.{IsHeadRead};
+ghost use Rattle.cdb_model.specs.declared.limits.TheConstants.{MOST_VERSIONS};
 
 use crate::paths::head;
 use crate::recover_error::RecoverError;
@@ -15,7 +16,7 @@ const HEAD_BYTES: u64 = 5;
 /// The newest version, as the file `HEAD` names it, or 0 where there is no such file.
 pub(crate) fn newest<D: Disk>(disk: &mut D) -> Result<u32, RecoverError>
     ensures read { D.tells → IsHeadRead ((D.state disk.old).present head_path) result }
-    ensures most { IfOk result (λ newest. newest ≤ 4096) }
+    ensures most { IfOk result (λ newest. newest ≤ MOST_VERSIONS) }
     ensures state { D.state disk.new ≡ D.state disk.old }
     ensures time { Rests (D.clock disk.old) (D.clock disk.new) (D.since disk.old) (D.since disk.new) }
     ensures later { D.fault_count disk.old ≤ D.fault_count disk.new }

@@ -9,6 +9,7 @@ ghost use Rattle.cdb_crash.specs.Crash.{IsWhole, IsEither, IsFaulted};
 ghost use Rattle.cdb_recover.specs.inside.Clearing.{RemovesUnder};
 ghost use Rattle.cdb_recover.specs.Answers.{IsAnswer, IsRecovered, HasNoLeftover, RemovesLeftovers, KeepsStore};
 ghost use Rattle.cdb_recover.specs.inside.Answers.{IsCleared};
+ghost use Rattle.cdb_model.specs.declared.limits.TheConstants.{MOST_VERSIONS};
 
 use crate::calls::{remove_new_head, sync_root};
 use crate::clearing::{MOST, clear};
@@ -19,7 +20,7 @@ use cdb_names::version_folder;
 
 /// Removes the files under the version after the newest.
 fn clear_next<D: Disk>(disk: &mut D, newest: u32) -> Result<u32, RecoverError>
-    requires { newest ≤ 4096 }
+    requires { newest ≤ MOST_VERSIONS }
     ensures clean { D.tells → (list : List (List Source)) → newest ≡ length list
         → IsWhole Stands list (D.state disk.old)
         → IfOk result (IsRecovered (D.state disk.new) list) }
@@ -48,7 +49,7 @@ fn clear_next<D: Disk>(disk: &mut D, newest: u32) -> Result<u32, RecoverError>
 
 /// Removes what was left of a publication after the newest version.
 fn clear_after<D: Disk>(disk: &mut D, newest: u32) -> Result<u32, RecoverError>
-    requires { newest ≤ 4096 }
+    requires { newest ≤ MOST_VERSIONS }
     ensures clean { D.tells → (list : List (List Source)) → newest ≡ length list
         → IsWhole Stands list (D.state disk.old)
         → IfOk result (IsRecovered (D.state disk.new) list) }
@@ -80,7 +81,7 @@ fn settle<D: Disk>(disk: &mut D) -> Result<u32, RecoverError>
     ensures kept { D.tells → KeepsStore (D.state disk.old).present (D.state disk.new).present }
     ensures left { D.tells → IfOk result (HasNoLeftover (D.state disk.new).present) }
     ensures folders { D.tells → (D.state disk.new).made ≡ (D.state disk.old).made }
-    ensures most { IfOk result (λ newest. newest ≤ 4096) }
+    ensures most { IfOk result (λ newest. newest ≤ MOST_VERSIONS) }
     ensures later { D.fault_count disk.old ≤ D.fault_count disk.new }
     ensures failed { result ≡ Err RecoverError.Fault → Rose (D.fault_count disk.old) (D.fault_count disk.new) }
     ensures reads { D.read_count disk.new ≤ D.read_count disk.old + 1 }
@@ -119,7 +120,7 @@ pub fn recover<D: Disk>(disk: &mut D) -> Result<u32, RecoverError>
     ensures kept { D.tells → KeepsStore (D.state disk.old).present (D.state disk.new).present }
     ensures left { D.tells → IfOk result (HasNoLeftover (D.state disk.new).present) }
     ensures folders { D.tells → (D.state disk.new).made ≡ (D.state disk.old).made }
-    ensures most { IfOk result (λ newest. newest ≤ 4096) }
+    ensures most { IfOk result (λ newest. newest ≤ MOST_VERSIONS) }
     ensures later { D.fault_count disk.old ≤ D.fault_count disk.new }
     ensures failed { result ≡ Err RecoverError.Fault → Rose (D.fault_count disk.old) (D.fault_count disk.new) }
     ensures reads { D.read_count disk.new ≤ D.read_count disk.old + 1 }

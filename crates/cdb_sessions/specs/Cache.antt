@@ -13,10 +13,11 @@ use Rattle.cdb_model.specs.Names.{path}
 use Rattle.cdb_sessions.specs.declared.slot.Pair.{Pair}
 use Rattle.cdb_sessions.specs.declared.slot.Slot.{Slot}
 use Rattle.cdb_sessions.specs.Slots.{NumberedSlot}
+use Rattle.cdb_model.specs.declared.limits.TheConstants.{MOST_TILE_BYTES, TILE_HEAD_BYTES}
 
 -- how many bytes the file of a tile has: a head of 186 bytes and the raster
 abbrev pub file_length : Tile → ℕ
-file_length t = 186 + tile_side t * tile_side t * (bits_of t.family / 8)
+file_length t = TILE_HEAD_BYTES + tile_side t * tile_side t * (bits_of t.family / 8)
 
 -- a file that is kept: its version and tile, and its bytes
 pub record Kept : Type 0 where
@@ -60,8 +61,8 @@ pub record IsMovedToFront (pair : Pair) (old new : List Kept) : Type 0 where
 
 -- eight frames, all out
 pub record IsPooled (pool : Frames ℕ) : Type 0 where
-  pub size : pool.frame_length ≡ 2097338
-  pub whole : length pool.items ≡ 16778704
+  pub size : pool.frame_length ≡ MOST_TILE_BYTES
+  pub whole : length pool.items ≡ 8 * MOST_TILE_BYTES
   pub out : pool.out ≡ replicate 8 true
 
 -- the frames of slots

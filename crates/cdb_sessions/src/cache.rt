@@ -6,19 +6,18 @@ ghost use Rattle.cdb_files.specs.Moments.{Rests};
 ghost use Rattle.cdb_files.specs.Whole.{IsOtherThan};
 ghost use Rattle.cdb_sessions.specs.Cache.{Kept, file_length, numbered_frames};
 ghost use Rattle.cdb_sessions.specs.inside.Cache.{IsUsed, IsFileRead, IsReadFrom, with_flags};
+ghost use Rattle.cdb_model.specs.declared.limits.TheConstants.{MOST_VERSIONS};
 
 use crate::errors::TileError;
 use crate::file::file_length;
 use crate::slot::Pair;
 use crate::slots::{Slots, new_slots, renew_last, use_slot};
 use cdb_files::{Disk, Failed, Path, ReadSize, read_whole};
+use cdb_model::MOST_TILE_BYTES;
 use cdb_names::write_path;
 use cdb_pool::{Frame, Pool};
 use std::alloc::{AllocError, Global};
 use std::marker::Model;
-
-/// How many bytes the longest file of a tile has.
-const FRAME_BYTES: u32 = 2_097_338;
 
 /// At most seven files of tiles, the one that was used last first, and a spare frame.
 #[derive(Drop)]
@@ -80,7 +79,7 @@ impl Cache {
     pub(crate) fn new(alloc: Global) -> Result<Cache, AllocError>
         ensures { IfOk result (λ cache. cache.kept ≡ []) }
     {
-        let mut pool = Pool::new(alloc, 8, FRAME_BYTES, 0)?;
+        let mut pool = Pool::new(alloc, 8, MOST_TILE_BYTES as u32, 0)?;
         let frames = take_frames(alloc, &mut pool)?;
         let slots = new_slots(alloc)?;
         Ok(Cache {
@@ -99,9 +98,9 @@ impl Cache {
         path: &Path,
         len: u32,
     ) -> Result<ReadSize, Failed>
-        requires { len ≤ 2097338 }
+        requires { len ≤ MOST_TILE_BYTES }
         ensures kept { self.new.kept ≡ self.old.kept }
-        ensures len { length self.new.spare ≡ 2097338 }
+        ensures len { length self.new.spare ≡ MOST_TILE_BYTES }
         ensures read { D.tells
             → IfOk result (IsFileRead ((D.state disk.old).present path.now.bytes) (take len self.new.spare)) }
         ensures other { IfOk result (IsOtherThan len) }
@@ -119,7 +118,7 @@ impl Cache {
     /// Reads the file from the disk and keeps it, as the first.
     pub(crate) fn read_file<D: Disk>(&mut self, pair: Pair, disk: &mut D) -> Result<(), TileError>
         requires from_one { 1 ≤ pair.version }
-        requires to_last { pair.version ≤ 4096 }
+        requires to_last { pair.version ≤ MOST_VERSIONS }
         ensures outcome { IsReadFrom D.tells (D.state disk.old).present pair self.old.kept self.new.kept result }
         ensures state { D.state disk.new ≡ D.state disk.old }
         ensures time { Rests (D.clock disk.old) (D.clock disk.new) (D.since disk.old) (D.since disk.new) }
@@ -147,7 +146,7 @@ impl Cache {
     pub(crate) fn first(&self) -> &[u8]
         requires { 0 < length self.now.kept }
         ensures bytes { Some result.now ≡ option_map (λ (k : Kept). k.bytes) (slice_get self.now.kept 0) }
-        ensures small { length result.now ≤ 2097338 }
+        ensures small { length result.now ≤ MOST_TILE_BYTES }
     {
         let Some((_, slot)) = self.slots.peek_mru() else {
             unreachable!();

@@ -1,4 +1,5 @@
 ghost use Rattle.std.specs.Prelude.{◌≤◌};
+ghost use Rattle.cdb_model.specs.declared.limits.TheConstants.{MOST_VERSIONS};
 
 use super::*;
 use cdb_chain::Chain;
@@ -52,7 +53,7 @@ fn put_version(
     fill: u8,
 ) -> Result<(), Fail>
     requires from_one { 1 ≤ version }
-    requires to_last { version ≤ 4096 }
+    requires to_last { version ≤ MOST_VERSIONS }
 {
     let count = levels.len();
     if count > 16 {

@@ -6,6 +6,7 @@ use Rattle.cdb_source.specs.declared.head.SourceHead.{SourceHead}
 use Rattle.cdb_source.specs.declared.source.Source.{Source}
 use Rattle.cdb_source.specs.declared.decode_error.DecodeError.{DecodeError}
 use Rattle.cdb_source.specs.declared.decode_error.DecodeError.TheVariants.{Memory, Bad}
+use Rattle.cdb_source.specs.declared.limits.TheConstants.{SOURCE_FRONT_BYTES}
 use Rattle.cdb_source.specs.Posts.{IsPost}
 use Rattle.cdb_source.specs.Texts.{source_first_bytes, source_front_text, post_bytes, posts_text, source_text}
 
@@ -50,7 +51,7 @@ pub record HasBadPost (bytes : List ℕ) (place : ℕ) : Type 0 where
   pub whole : 2 * post_count head ≤ length rest
   pub within : count < post_count head
   pub bad : IsBadPost head.kind rest count
-  pub place_is : place ≡ 52 + 2 * count
+  pub place_is : place ≡ SOURCE_FRONT_BYTES + 2 * count
 
 -- more bytes follow a whole source
 pub record HasBytesLeft (bytes : List ℕ) (place : ℕ) : Type 0 where
@@ -64,7 +65,7 @@ pub record HasBytesLeft (bytes : List ℕ) (place : ℕ) : Type 0 where
 pub data FirstBadPart (bytes : List ℕ) (place : ℕ) : Type 0 where
   first_bytes_bad : HasOtherFirstBytes bytes → place ≡ 0 → FirstBadPart bytes place
   head_bad : HasNoHead bytes → place ≡ 8 → FirstBadPart bytes place
-  posts_cut : HasCutPosts bytes → place ≡ 52 → FirstBadPart bytes place
+  posts_cut : HasCutPosts bytes → place ≡ SOURCE_FRONT_BYTES → FirstBadPart bytes place
   post_bad : HasBadPost bytes place → FirstBadPart bytes place
   bytes_left : HasBytesLeft bytes place → FirstBadPart bytes place
 

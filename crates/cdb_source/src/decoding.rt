@@ -14,6 +14,7 @@ use crate::decode_error::DecodeError;
 use crate::encoding::FIRST_BYTES;
 use crate::head::SourceHead;
 use crate::kind::Kind;
+use crate::limits::SOURCE_FRONT_BYTES;
 use crate::posts::Posts;
 use crate::row::is_post;
 use crate::source::Source;
@@ -38,15 +39,15 @@ fn kind_of(number: u8) -> Option<Kind>
     }
 }
 
-fn count_at(bytes: &[u8; 52], at: usize) -> u32
-    requires { at + 4 ≤ 52 }
+fn count_at(bytes: &[u8; SOURCE_FRONT_BYTES], at: usize) -> u32
+    requires { at + 4 ≤ SOURCE_FRONT_BYTES }
     ensures { result ≡ count_from bytes.now at }
 {
     u32::from_be_bytes([bytes[at], bytes[at + 1], bytes[at + 2], bytes[at + 3]])
 }
 
-fn units_at(bytes: &[u8; 52], at: usize) -> i64
-    requires { at + 8 ≤ 52 }
+fn units_at(bytes: &[u8; SOURCE_FRONT_BYTES], at: usize) -> i64
+    requires { at + 8 ≤ SOURCE_FRONT_BYTES }
     ensures { result ≡ units_from bytes.now at }
 {
     i64::from_be_bytes([
@@ -61,8 +62,8 @@ fn units_at(bytes: &[u8; 52], at: usize) -> i64
     ])
 }
 
-fn arc_at(bytes: &[u8; 52], at: usize) -> Option<Arc>
-    requires { at + 8 ≤ 52 }
+fn arc_at(bytes: &[u8; SOURCE_FRONT_BYTES], at: usize) -> Option<Arc>
+    requires { at + 8 ≤ SOURCE_FRONT_BYTES }
     ensures { MatchOption result ((arc : arcs.Arc) → units_from bytes.now at ≡ arc.units → ⊥)
         (λ arc. units_from bytes.now at ≡ arc.units) }
 {
@@ -76,7 +77,7 @@ fn arc_at(bytes: &[u8; 52], at: usize) -> Option<Arc>
 /// Arc units of 360 degrees.
 const FULL_CIRCLE: i64 = 360 * DEGREE as i64;
 
-fn head_of(bytes: &[u8; 52]) -> Option<SourceHead>
+fn head_of(bytes: &[u8; SOURCE_FRONT_BYTES]) -> Option<SourceHead>
     ensures { MatchOption result ((head : heads.SourceHead) → HasHead bytes.now head → ⊥)
         (λ head. HasHead bytes.now head) }
 {
@@ -107,7 +108,7 @@ fn head_of(bytes: &[u8; 52]) -> Option<SourceHead>
 }
 
 /// The head that the first 52 bytes of a source file spell, or `None` exactly where they spell none.
-pub fn decode_head(bytes: &[u8; 52]) -> Option<SourceHead>
+pub fn decode_head(bytes: &[u8; SOURCE_FRONT_BYTES]) -> Option<SourceHead>
     ensures spelled { IfSome result (λ head. bytes.now ≡ source_front_text head) }
     ensures only { (head : heads.SourceHead) → bytes.now ≡ source_front_text head → result ≡ Some head }
 {
@@ -116,13 +117,13 @@ pub fn decode_head(bytes: &[u8; 52]) -> Option<SourceHead>
 
 /// The head before the posts.
 fn front(bytes: &[u8]) -> Result<SourceHead, DecodeError>
-    ensures head { IfOk result (λ head. bytes.now ≡ source_front_text head ++ drop 52 bytes.now) }
+    ensures head { IfOk result (λ head. bytes.now ≡ source_front_text head ++ drop SOURCE_FRONT_BYTES bytes.now) }
     ensures bad { IfErr result (SourceCause bytes.now) }
 {
     if !begins_right(bytes) {
         return Err(DecodeError::Bad { place: 0 });
     }
-    let Some(front) = bytes.first_chunk::<52>() else {
+    let Some(front) = bytes.first_chunk::<SOURCE_FRONT_BYTES>() else {
         return Err(DecodeError::Bad { place: 8 });
     };
     match decode_head(front) {
@@ -165,7 +166,7 @@ fn posts_of(alloc: Global, kind: Kind, text: &[u8], count: usize) -> Result<Vec<
     match read_posts(kind, text, posts.as_mut_slice()) {
         None => Ok(posts),
         Some(k) => Err(DecodeError::Bad {
-            place: 52 + 2 * k as u32,
+            place: SOURCE_FRONT_BYTES as u32 + 2 * k as u32,
         }),
     }
 }
@@ -177,15 +178,17 @@ fn source_of(alloc: Global, bytes: &[u8]) -> Result<Source, DecodeError>
 {
     let head = front(bytes)?;
     let count = head.rows as usize * head.cols as usize;
-    let rest = bytes.split_at(52).1;
+    let rest = bytes.split_at(SOURCE_FRONT_BYTES).1;
     if rest.len() < 2 * count {
-        return Err(DecodeError::Bad { place: 52 });
+        return Err(DecodeError::Bad {
+            place: SOURCE_FRONT_BYTES as u32,
+        });
     }
     let (text, after) = rest.split_at(2 * count);
     let posts = posts_of(alloc, head.kind, text, count)?;
     if !after.is_empty() {
         return Err(DecodeError::Bad {
-            place: 52 + 2 * count as u32,
+            place: SOURCE_FRONT_BYTES as u32 + 2 * count as u32,
         });
     }
     Ok(Source {

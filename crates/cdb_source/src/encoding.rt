@@ -4,6 +4,7 @@ ghost use Rattle.cdb_source.specs.Texts as texts;
 
 use crate::head::SourceHead;
 use crate::kind::Kind;
+use crate::limits::SOURCE_FRONT_BYTES;
 use crate::source::Source;
 
 /// The eight bytes that a source file begins with.
@@ -29,10 +30,10 @@ fn put(to: &mut [u8], at: usize, part: &[u8])
 /// The bytes of a source file before its posts: the eight bytes `CDBSRC1` and a line feed, and the 44
 /// bytes of the head. All numbers are big endian, and signed ones two's complement.
 #[tactic(auto, unfolding(crate::specs::Texts::head_text))]
-pub fn encode_head(head: &SourceHead) -> [u8; 52]
+pub fn encode_head(head: &SourceHead) -> [u8; SOURCE_FRONT_BYTES]
     ensures { result ≡ texts.source_front_text head.now }
 {
-    let mut bytes = [0; 52];
+    let mut bytes = [0; SOURCE_FRONT_BYTES];
     put(&mut bytes, 0, &FIRST_BYTES);
     let kind_and_level = [
         kind_number(head.kind),
@@ -66,7 +67,7 @@ pub fn encode_row(source: &Source, r: u32, to: &mut [u8])
     requires room { length to.old ≡ 2 * source.now.head.cols }
     ensures posts { to.new ≡ texts.posts_text (texts.row_of_posts source.now r) }
     ensures part { to.new ≡ take (2 * source.now.head.cols)
-        (drop (52 + 2 * (r * source.now.head.cols)) (texts.source_text source.now)) }
+        (drop (SOURCE_FRONT_BYTES + 2 * (r * source.now.head.cols)) (texts.source_text source.now)) }
 {
     let cols = source.head.cols as usize;
     let from = r as usize * cols;

@@ -5,6 +5,7 @@
 ghost use Rattle.std.specs.Prelude.{◌≡◌, ◌+◌, ◌*◌, ◌≤◌, length};
 ghost use Rattle.cdb_source.specs.declared.head.SourceHead as heads;
 ghost use Rattle.cdb_source.specs.declared.source.Source as sources;
+ghost use Rattle.cdb_source.specs.declared.limits.TheConstants.{SOURCE_FRONT_BYTES};
 ghost use Rattle.cdb_source.specs.Texts.{source_front_text, source_text};
 ghost use Rattle.cdb_source.specs.Decoding.{OneBadPart, SourceHasNone};
 ghost use Rattle.cdb_source.specs.Laws.{BestSource, FinerPlaces, FromFiner, EarlierStand, ThreePasses, LeastOfCell, GreatestOfCell, MostFrequent, MaterialLater, ReachingAlone, Samples, TouchedWithinLoad};
@@ -89,7 +90,7 @@ pub fn source_has_none()
 
 /// The file of a source has 52 bytes, and two for each post: at most 33,554,484.
 pub fn source_file_length()
-    ensures front { (head : heads.SourceHead) → length (source_front_text head) ≡ 52 }
-    ensures whole { (s : sources.Source) → length (source_text s) ≡ 52 + 2 * (s.head.rows * s.head.cols) }
+    ensures front { (head : heads.SourceHead) → length (source_front_text head) ≡ SOURCE_FRONT_BYTES }
+    ensures whole { (s : sources.Source) → length (source_text s) ≡ SOURCE_FRONT_BYTES + 2 * (s.head.rows * s.head.cols) }
     ensures most { (s : sources.Source) → length (source_text s) ≤ 33554484 }
 {}

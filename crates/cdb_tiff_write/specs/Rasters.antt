@@ -7,6 +7,7 @@ use Rattle.cdb_grid.specs.declared.family.Family.TheVariants.{Elev, Low, High, M
 use Rattle.cdb_grid.specs.declared.tile.Tile.{Tile}
 use Rattle.cdb_model.specs.Text.{last_first}
 use Rattle.cdb_model.specs.TileFile.{head_bytes, bits_of, row_bytes}
+use Rattle.cdb_model.specs.declared.limits.TheConstants.{TILE_HEAD_BYTES}
 
 -- a number of a material in one byte, and any that is none as 0
 unfoldable pub octet_of : ℤ → ℕ
@@ -29,4 +30,4 @@ frame_bytes t frame = head_bytes (tile_side t) (bits_of t.family) ++ last_first 
 
 -- the length of a tile's file: the head, and one or two bytes for each element
 abbrev pub tile_size : Tile → ℕ
-tile_size t = 186 + tile_side t * tile_side t * (bits_of t.family / 8)
+tile_size t = TILE_HEAD_BYTES + tile_side t * tile_side t * (bits_of t.family / 8)

@@ -7,9 +7,10 @@ ghost use Rattle.cdb_source.specs.declared.source.Source as sources;
 ghost use Rattle.cdb_model.specs.TileFile.{bits_of, tile_bytes};
 ghost use Rattle.cdb_cut.specs.OneTile.{IsFrameOf};
 ghost use Rattle.cdb_tiff_write.specs.Samples.{sample_in, HasRaster};
+ghost use Rattle.cdb_model.specs.declared.limits.TheConstants.{MOST_TILE_VALUES};
 
-use crate::size::HEAD_BYTES;
 use cdb_grid::{RowRule, Spot, change_part};
+use cdb_model::TILE_HEAD_BYTES;
 
 /// The raster of a tile's file.
 #[derive(Clone, Copy)]
@@ -23,14 +24,14 @@ struct Raster<'a> {
 /// One sample, by its number from the north-west.
 fn sample(bytes: &[u8], bits: u8, number: usize) -> i16
     requires bits { IsTrue (bits == 8 || bits == 16) }
-    requires within { 186 + (number + 1) * (bits / 8) ≤ length bytes.now }
-    requires small { number < 1048576 }
+    requires within { TILE_HEAD_BYTES + (number + 1) * (bits / 8) ≤ length bytes.now }
+    requires small { number < MOST_TILE_VALUES }
     ensures { result ≡ sample_in bits bytes.now number }
 {
     if bits == 8 {
-        bytes[HEAD_BYTES + number] as i16
+        bytes[TILE_HEAD_BYTES + number] as i16
     } else {
-        let at = HEAD_BYTES + 2 * number;
+        let at = TILE_HEAD_BYTES + 2 * number;
         i16::from_le_bytes([bytes[at], bytes[at + 1]])
     }
 }
@@ -54,7 +55,7 @@ impl RowRule for Raster<'_> {
 pub fn posts_of(bytes: &[u8], side: u32, bits: u8, to: &mut [i16])
     requires bits { IsTrue (bits == 8 || bits == 16) }
     requires side { side ≤ 1024 }
-    requires bytes { length bytes.now ≡ 186 + side * side * (bits / 8) }
+    requires bytes { length bytes.now ≡ TILE_HEAD_BYTES + side * side * (bits / 8) }
     requires to { length to.old ≡ side * side }
     ensures size { length to.new ≡ length to.old }
     ensures each { (row col : ℕ) → row < side → col < side → number_at to.new side row col ≡ sample_in bits

@@ -2,11 +2,10 @@
 ghost use Rattle.std.specs.Prelude.{◌≡◌, ◌≤◌, ◌==◌, ◌||◌, IsTrue};
 ghost use Rattle.cdb_model.specs.TileFile.{bits_of};
 ghost use Rattle.cdb_tiff_write.specs.Rasters.{tile_size};
+ghost use Rattle.cdb_model.specs.declared.limits.TheConstants.{MOST_TILE_BYTES};
 
 use cdb_grid::{Family, Tile, side};
-
-/// The bytes of a tile's file before its raster.
-pub(crate) const HEAD_BYTES: usize = 186;
+use cdb_model::TILE_HEAD_BYTES;
 
 /// The bits of an element of a tile: 16 for elevations, with a sign, and 8 for materials, without one.
 pub fn bits(family: Family) -> u8
@@ -23,8 +22,8 @@ pub fn bits(family: Family) -> u8
 /// for each material.
 pub fn tile_size(tile: &Tile) -> usize
     ensures value { result ≡ tile_size tile.now }
-    ensures most { result ≤ 2097338 }
+    ensures most { result ≤ MOST_TILE_BYTES }
 {
     let side = side(tile.level) as usize;
-    HEAD_BYTES + side * side * (bits(tile.family) as usize / 8)
+    TILE_HEAD_BYTES + side * side * (bits(tile.family) as usize / 8)
 }

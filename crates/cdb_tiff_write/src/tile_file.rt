@@ -7,9 +7,10 @@ ghost use Rattle.cdb_cut.specs.OneTile.{IsFrameOf};
 ghost use Rattle.cdb_tiff_write.specs.Rasters.{frame_bytes, tile_size};
 
 use crate::raster::put_rows;
-use crate::size::{HEAD_BYTES, bits};
+use crate::size::bits;
 use crate::tile_head::head;
 use cdb_grid::{Tile, side};
+use cdb_model::TILE_HEAD_BYTES;
 
 /// Writes the file of a tile with the numbers of a frame, whose first row is the south row. `bytes` has
 /// the length of the file, and `frame` a number for each element of the tile. A number of a tile of
@@ -21,7 +22,7 @@ pub fn put_file(tile: &Tile, frame: &[i16], bytes: &mut [u8])
     ensures file { (ss : List sources.Source) → IsFrameOf ss tile.now frame.now → bytes.new ≡ tile_bytes ss tile.now }
 {
     let side = side(tile.level);
-    let (first, raster) = bytes.split_at_mut(HEAD_BYTES);
+    let (first, raster) = bytes.split_at_mut(TILE_HEAD_BYTES);
     first.copy_from_slice(&head(side, bits(tile.family)));
     put_rows(tile.family, side as usize, frame, raster);
 }

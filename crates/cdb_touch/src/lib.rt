@@ -13,7 +13,7 @@ mod tests;
 mod tiles;
 mod touch;
 
-pub use cdb_source::kind_of;
+pub use cdb_source::{MOST_LOAD, kind_of};
 pub use loads::load;
 pub use reach::{reached, reaches};
 pub use touch::{TouchError, touched};

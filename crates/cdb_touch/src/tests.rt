@@ -117,14 +117,14 @@ fn loads_and_touched_tiles(rt: HostRuntime) -> Result<(), Fail> {
         assert_eq!(rt; load(&[head]), load_is);
         match touched(rt.alloc(), &[head]) {
             Ok(tiles) => {
-                assert!(rt; load_is <= 16_384);
+                assert!(rt; load_is <= MOST_LOAD);
                 assert_eq!(rt; tiles.len() as u128, load_is);
                 for tile in &tiles {
                     assert!(rt; reaches(&head, tile));
                 }
             }
             Err(error) => {
-                assert!(rt; load_is > 16_384);
+                assert!(rt; load_is > MOST_LOAD);
                 assert_eq!(rt; error, TouchError::Large { count: load_is });
             }
         }

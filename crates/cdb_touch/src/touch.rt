@@ -7,7 +7,7 @@ ghost use Rattle.cdb_touch.specs.Touched.{IsAscending, TellsLoad};
 use crate::gather::push_touched;
 use crate::loads::load;
 use cdb_grid::Tile;
-use cdb_source::SourceHead;
+use cdb_source::{MOST_LOAD, SourceHead};
 use std::alloc::Global;
 use thiserror::Error;
 
@@ -21,9 +21,6 @@ pub enum TouchError {
     #[error("the load is {count}, above 16,384")]
     Large { count: u128 },
 }
-
-/// The greatest load of a publication.
-const LOAD_LIMIT: u128 = 16_384;
 
 /// Puts tiles into the stated order, each once.
 fn sort_once(tiles: &mut Vec<Tile>)
@@ -39,11 +36,11 @@ fn sort_once(tiles: &mut Vec<Tile>)
 pub fn touched(alloc: Global, heads: &[SourceHead]) -> Result<Vec<Tile>, TouchError>
     ensures listed { IfOk result (λ tiles. ListsOnce (Reached heads.now) tiles.items) }
     ensures order { IfOk result (λ tiles. IsAscending tiles.items) }
-    ensures large { (load : ℕ) → IsLoad heads.now load → (result ≡ Err (TouchError.Large load)) ↔ (16384 < load) }
+    ensures large { (load : ℕ) → IsLoad heads.now load → (result ≡ Err (TouchError.Large load)) ↔ (MOST_LOAD < load) }
     ensures told { IfErr result (TellsLoad heads.now) }
 {
     let count = load(heads);
-    if count > LOAD_LIMIT {
+    if count > MOST_LOAD {
         return Err(TouchError::Large { count });
     }
     let mut tiles = Vec::new(alloc);

@@ -5,6 +5,7 @@ use Rattle.cdb_model.specs.Names.{Text}
 use Rattle.cdb_names.specs.declared.folder.DatasetFolder.{DatasetFolder}
 use Rattle.cdb_names.specs.declared.folder.DatasetFolder.TheVariants.{Elevation, MinMaxElevation, RmTexture}
 use Rattle.cdb_names.specs.Fields.{after, fine_of, lat_at, lon_at, numbered_at, two_at, ◌>>=◌}
+use Rattle.cdb_model.specs.declared.limits.TheConstants.{MOST_VERSIONS}
 
 -- a field with a slash after it
 abbrev pub slashed : {X : Type 0} → Option (X × Text) → Option (X × Text)
@@ -18,7 +19,7 @@ four_at text = do
 
 -- a version from 1 to 4,096, in eight digits
 abbrev pub version_of : ℕ → ℕ → Option ℕ
-version_of high low = if nat_lt 0 (high * 10000 + low) && nat_le (high * 10000 + low) 4096 then Some (high * 10000 + low) else None
+version_of high low = if nat_lt 0 (high * 10000 + low) && nat_le (high * 10000 + low) MOST_VERSIONS then Some (high * 10000 + low) else None
 
 unfoldable pub version_at : Text → Option (ℕ × Text)
 version_at text = do

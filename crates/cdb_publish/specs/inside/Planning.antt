@@ -5,6 +5,7 @@ use Rattle.std.specs.Str.{bytes_eq}
 use Rattle.cdb_grid.specs.declared.tile.Tile.{Tile}
 use Rattle.cdb_source.specs.Reached.{IsLoad}
 use Rattle.cdb_source.specs.declared.head.SourceHead.{SourceHead}
+use Rattle.cdb_source.specs.declared.limits.TheConstants.{MOST_LOAD}
 use Rattle.cdb_model.specs.Maps.{Text}
 use Rattle.cdb_model.specs.Names.{source_path, path}
 use Rattle.cdb_publish.specs.declared.errors.PlanError.{PlanError}
@@ -13,7 +14,7 @@ use Rattle.cdb_publish.specs.declared.errors.PlanError.TheVariants.{Memory, Larg
 -- What the first refusals say.
 abbrev pub IsTooHeavy : List SourceHead → PlanError → Type 0
 IsTooHeavy heads Memory = Unit {0}
-IsTooHeavy heads (Large count) = IsLoad heads count × (16384 < count)
+IsTooHeavy heads (Large count) = IsLoad heads count × (MOST_LOAD < count)
 IsTooHeavy heads (Entries count) = ⊥
 IsTooHeavy heads Versions = ⊥
 

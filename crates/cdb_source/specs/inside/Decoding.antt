@@ -3,6 +3,7 @@ use Rattle.std.specs.Prelude.{◌≡◌, ℕ, ◌+◌, ◌*◌, ◌<◌, ℤ, Li
 use Rattle.cdb_source.specs.declared.kind.Kind.{Kind}
 use Rattle.cdb_source.specs.declared.decode_error.DecodeError.{DecodeError}
 use Rattle.cdb_source.specs.declared.decode_error.DecodeError.TheVariants.{Memory, Bad}
+use Rattle.cdb_source.specs.declared.limits.TheConstants.{SOURCE_FRONT_BYTES}
 use Rattle.cdb_source.specs.Posts.{IsPost}
 use Rattle.cdb_source.specs.Texts.{posts_text}
 use Rattle.cdb_source.specs.Decoding.{IsBadPost}
@@ -15,4 +16,4 @@ pub record ReadsPosts (kind : Kind) (text : List ℕ) (posts : List ℤ) : Type 
 -- what an error says of a text of so many posts
 abbrev pub TellsPost : Kind → List ℕ → ℕ → DecodeError → Type 0
 TellsPost kind text count Memory = Unit {0}
-TellsPost kind text count (Bad place) = (k : ℕ) × ((k < count) × IsBadPost kind text k × (place ≡ 52 + 2 * k))
+TellsPost kind text count (Bad place) = (k : ℕ) × ((k < count) × IsBadPost kind text k × (place ≡ SOURCE_FRONT_BYTES + 2 * k))

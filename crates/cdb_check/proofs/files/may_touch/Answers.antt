@@ -12,7 +12,7 @@ returns-in-Ok-clause-may c =
       (λ yes. record {
         load = c.load.result;
         load_is = c.load.ensures.load;
-        fits = omega (arith, c.if-load-gt-LOAD_LIMIT.false);
+        fits = omega (arith, c.if-load-gt-MOST_LOAD.false);
         touched = subst (λ (tiles : List Tile). IsTouched heads tiles)
             (sym c.as_slice.ensures.value ∙ c.same_tiles.ensures.0 yes) listed;
       }),

@@ -13,8 +13,8 @@ use Rattle.cdb_publish.proofs.EntryLists.{entries_few}
 use Rattle.cdb_publish.proofs.PlanBegins.{folders_are, one_publication}
 use Rattle.cdb_publish.proofs.outline.outline.Goals as goal
 
-pub returns-then-newest-eq-VERSION_LIMIT-clause-refused : goal.returns-then-newest-eq-VERSION_LIMIT-clause-refused
-returns-then-newest-eq-VERSION_LIMIT-clause-refused c =
+pub returns-then-newest-eq-MOST_VERSIONS-clause-refused : goal.returns-then-newest-eq-MOST_VERSIONS-clause-refused
+returns-then-newest-eq-MOST_VERSIONS-clause-refused c =
     let heads = c.as_slice.ensures.value ∙ c.in_ok-heads.ensures in
     let L : List SourceHead → Type 0 = IsLight in
     let T : List SourceHead → Type 0 = λ hs. IsTouched hs c.in-Ok.tiles.items in
@@ -25,7 +25,7 @@ returns-then-newest-eq-VERSION_LIMIT-clause-refused c =
         record { tiles = c.in-Ok.tiles.items; touched = subst T heads c.in-Ok.ensures.touched; count_is = omega (arith, c.entries.ensures, n) },
         omega (arith, c.if-count-gt-ENTRY_LIMIT.false),
       ),
-      omega (arith, c.newest-newest.ensures.value, c.if-newest-eq-VERSION_LIMIT.true),
+      omega (arith, c.newest-newest.ensures.value, c.if-newest-eq-MOST_VERSIONS.true),
     )
 
 pub returns-clause-accepted : goal.returns-clause-accepted
@@ -40,7 +40,7 @@ returns-clause-accepted c =
         record { tiles = c.in-Ok.tiles.items; touched = subst T heads c.in-Ok.ensures.touched; count_is = omega (arith, c.entries.ensures, n) },
         omega (arith, c.if-count-gt-ENTRY_LIMIT.false),
       ),
-      omega (arith, c.newest-newest.ensures.value, c.newest-newest.ensures.most, c.if-newest-eq-VERSION_LIMIT.false),
+      omega (arith, c.newest-newest.ensures.value, c.newest-newest.ensures.most, c.if-newest-eq-MOST_VERSIONS.false),
     )
 
 pub returns-clause-plans : goal.returns-clause-plans
@@ -59,7 +59,7 @@ returns-clause-plans c P list are =
         record { tiles = c.in-Ok.tiles.items; touched = touched; count_is = omega (arith, c.entries.ensures, n) },
         omega (arith, c.if-count-gt-ENTRY_LIMIT.false),
       ),
-      omega (arith, c.newest-newest.ensures.value, c.newest-newest.ensures.most, c.if-newest-eq-VERSION_LIMIT.false),
+      omega (arith, c.newest-newest.ensures.value, c.newest-newest.ensures.most, c.if-newest-eq-MOST_VERSIONS.false),
     ) in
     let v : c.newest-newest.result + 1 ≡ length P + 1 = omega (arith, c.newest-newest.ensures.value, are.count) in
     let h : c.from.result ≡ heads_of x = c.from.ensures ∙ c.in_ok-heads.ensures in
