@@ -8,6 +8,7 @@ mod laws;
 mod path_reading;
 mod paths;
 mod reading;
+mod root_paths;
 mod writing;
 
 pub use cdb_model::NameError;
@@ -18,6 +19,7 @@ pub use paths::{
     write_path,
 };
 pub use reading::read_name;
+pub use root_paths::{head_path, new_head_path, root_folder};
 pub use writing::write_name;
 
 #[cfg(test)]

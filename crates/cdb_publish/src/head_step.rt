@@ -13,9 +13,9 @@ ghost use Rattle.cdb_crash.specs.Crash.{IsClean, IsReadyForHead, IsEither, head_
 ghost use Rattle.cdb_crash.specs.Leftovers.{HasNext};
 ghost use Rattle.cdb_model.specs.declared.limits.TheConstants.{MOST_VERSIONS};
 
-use crate::paths::{head, new_head, root};
 use cdb_files::{Disk, Failed, fill};
 use cdb_manifest::write_head;
+use cdb_names::{head_path, new_head_path, root_folder};
 
 /// Writes the file that is to take the place of the head.
 fn write_new_head<D: Disk>(disk: &mut D, text: &[u8]) -> Result<(), Failed>
@@ -24,7 +24,7 @@ fn write_new_head<D: Disk>(disk: &mut D, text: &[u8]) -> Result<(), Failed>
     ensures cause { HasCause (D.fault_count disk.old) (D.fault_count disk.new) result }
     ensures reads { D.read_count disk.new ≡ D.read_count disk.old }
 {
-    let path = new_head();
+    let path = new_head_path();
     fill(disk, &path, text)?;
     Ok(())
 }
@@ -41,8 +41,8 @@ fn replace_head<D: Disk>(disk: &mut D) -> Result<(), Failed>
     ensures cause { HasCause (D.fault_count disk.old) (D.fault_count disk.new) result }
     ensures reads { D.read_count disk.new ≡ D.read_count disk.old }
 {
-    let from = new_head();
-    let to = head();
+    let from = new_head_path();
+    let to = head_path();
     disk.rename(&from, &to)?;
     Ok(())
 }
@@ -56,7 +56,7 @@ fn sync_root<D: Disk>(disk: &mut D) -> Result<(), Failed>
     ensures cause { HasCause (D.fault_count disk.old) (D.fault_count disk.new) result }
     ensures reads { D.read_count disk.new ≡ D.read_count disk.old }
 {
-    let folder = root();
+    let folder = root_folder();
     disk.sync_dir(&folder)?;
     Ok(())
 }

@@ -13,7 +13,6 @@ mod look_up;
 mod make_step;
 mod older;
 mod outline;
-mod paths;
 mod plan;
 mod planning;
 mod publication;

@@ -7,8 +7,8 @@ ghost use Rattle.cdb_files.specs.Moments.{Elapses, IsBetween};
 ghost use Rattle.cdb_files.specs.Whole.{WritesOnly};
 ghost use Rattle.cdb_recover.specs.inside.Clearing.{RemovesOne};
 
-use crate::paths::{new_head, root};
 use cdb_files::{Disk, Failed};
+use cdb_names::{new_head_path, root_folder};
 
 /// Makes sure of which files lie directly in the root.
 pub(crate) fn sync_root<D: Disk>(disk: &mut D) -> Result<(), Failed>
@@ -20,7 +20,7 @@ pub(crate) fn sync_root<D: Disk>(disk: &mut D) -> Result<(), Failed>
     ensures cause { HasCause (D.fault_count disk.old) (D.fault_count disk.new) result }
     ensures reads { D.read_count disk.new ≡ D.read_count disk.old }
 {
-    let folder = root();
+    let folder = root_folder();
     disk.sync_dir(&folder)?;
     Ok(())
 }
@@ -34,7 +34,7 @@ pub(crate) fn remove_new_head<D: Disk>(disk: &mut D) -> Result<(), Failed>
     ensures cause { HasCause (D.fault_count disk.old) (D.fault_count disk.new) result }
     ensures reads { D.read_count disk.new ≡ D.read_count disk.old }
 {
-    let path = new_head();
+    let path = new_head_path();
     disk.remove(&path)?;
     Ok(())
 }

@@ -5,10 +5,10 @@ ghost use Rattle.cdb_files.specs.Moments.{Rests};
 ghost use Rattle.cdb_recover.specs.inside.Answers.{IsHeadRead};
 ghost use Rattle.cdb_model.specs.declared.limits.TheConstants.{MOST_VERSIONS};
 
-use crate::paths::head;
 use crate::recover_error::RecoverError;
 use cdb_files::Disk;
 use cdb_manifest::read_head;
+use cdb_names::head_path;
 
 /// How many bytes the file `HEAD` has at most.
 const HEAD_BYTES: u64 = 5;
@@ -23,7 +23,7 @@ pub(crate) fn newest<D: Disk>(disk: &mut D) -> Result<u32, RecoverError>
     ensures failed { result ≡ Err RecoverError.Fault → Rose (D.fault_count disk.old) (D.fault_count disk.new) }
     ensures reads { D.read_count disk.new ≤ D.read_count disk.old + 1 }
 {
-    let path = head();
+    let path = head_path();
     let size = match disk.size(&path) {
         Ok(Some(size)) => size,
         Ok(None) => return Ok(0),

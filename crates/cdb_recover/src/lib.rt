@@ -5,7 +5,6 @@
 mod calls;
 mod clearing;
 mod head;
-mod paths;
 mod recover_error;
 mod recovery;
 #[cfg(test)]

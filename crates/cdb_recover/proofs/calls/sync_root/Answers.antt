@@ -9,4 +9,4 @@ returns-in_err-sync_dir-clause-folders g c told = ap (λ (s : State). s.made) (c
 pub returns-clause-folders : goal.returns-clause-folders
 returns-clause-folders g c told =
     ap (λ (s : State). s.made) (c.in_ok-sync_dir.ensures.ok told)
-    ∙ sync_dir-made c.root-folder.result.bytes (g.D.Disk.state c.args.disk.now)
+    ∙ sync_dir-made c.root_folder-folder.result.bytes (g.D.Disk.state c.args.disk.now)

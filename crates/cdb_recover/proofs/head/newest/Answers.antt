@@ -9,8 +9,8 @@ returns-then-size-gt-HEAD_BYTES-clause-read g c told =
     let present = (g.D.Disk.state c.args.disk.now).present in
     let N : Text → Type 0 = λ q. NamesNone (present q) in
     let size = sym c.in-Ok-Some.field-0-is ∙ c.in-Ok-Some.ensures.size told in (
-      subst N c.head-path.ensures
-          (long_file (present c.head-path.result.bytes) c.in-Ok-Some.size size c.if-size-gt-HEAD_BYTES.true),
+      subst N c.head_path-path.ensures
+          (long_file (present c.head_path-path.result.bytes) c.in-Ok-Some.size size c.if-size-gt-HEAD_BYTES.true),
       refl,
       refl,
     )
