@@ -1,61 +1,22 @@
 //! Tiles made from sources alone: each finer tile is made and folded in, and then the sources of the
 //! tile's own level are painted.
-ghost use Rattle.std.specs.Prelude.{◌≡◌, ℕ, ◌+◌, ◌*◌, ◌/◌, ◌%◌, ◌≤◌, ◌++◌, ◌∷◌, [], List, ℤ, Option, length};
+ghost use Rattle.std.specs.Prelude.{◌≡◌, ℕ, ◌+◌, ◌*◌, ◌≤◌, ◌++◌, ◌∷◌, [], List, ℤ, Option, length};
 ghost use Rattle.cdb_grid.specs.Children.{IsParent};
-ghost use Rattle.cdb_grid.specs.Frames.{IsPartChanged, four_under};
 ghost use Rattle.cdb_grid.specs.Tiles.{tile_side};
 ghost use Rattle.cdb_grid.specs.declared.tile.Tile as grid;
 ghost use Rattle.cdb_cut.specs.Laws.{IsOwn, IsExtreme};
-ghost use Rattle.cdb_cut.specs.OneTile.{four_rule, IsFrameOf, IsFolded, IsWholeFolded};
-ghost use Rattle.cdb_cut.specs.FinerTiles.{AreChildren, elevation_tile};
-ghost use Rattle.cdb_cut.specs.inside.FinerTiles.{IsPlain};
+ghost use Rattle.cdb_cut.specs.OneTile.{IsFrameOf, IsFolded, IsWholeFolded};
+ghost use Rattle.cdb_cut.specs.FinerTiles.{AreChildren, IsPlain, elevation_tile};
 ghost use Rattle.cdb_check.specs.Kept.{AreKeptFrames};
 
 use crate::kept::Kept;
-use crate::painting::{clear, paint_sources};
-use cdb_grid::{Family, Spot, Tile, children, side, spot_of};
+use crate::painting::paint_sources;
+use cdb_cut::{clear, elevation_tile, fold};
+use cdb_grid::{Family, Tile, children, side, spot_of};
 use cdb_model::MOST_TILE_VALUES;
 use cdb_scratch::build;
 use cdb_source::Source;
 use cdb_touch::reached;
-
-/// Folds a finer tile into the part of a frame that it stands under, by the rule of its family.
-fn fold(
-    family: Family,
-    child: &[i16],
-    child_side: u32,
-    spot: Spot,
-    frame: &mut [i16],
-    frame_side: u32,
-)
-    requires even { child_side % 2 ≡ 0 }
-    requires child { length child.now ≡ child_side * child_side }
-    requires frame { length frame.old ≡ frame_side * frame_side }
-    requires row_fits { spot.row + child_side / 2 ≤ frame_side }
-    requires col_fits { spot.col + child_side / 2 ≤ frame_side }
-    ensures { IsPartChanged (four_under (four_rule family) child.now child_side) spot.row spot.col (child_side / 2)
-        (child_side / 2) frame_side frame.old frame.new }
-{
-    match family {
-        Family::Elev => cdb_elev::fold(child, child_side, spot, frame, frame_side),
-        Family::Low => cdb_minmax::fold_low(child, child_side, spot, frame, frame_side),
-        Family::High => cdb_minmax::fold_high(child, child_side, spot, frame, frame_side),
-        Family::Mat => cdb_material::fold(child, child_side, spot, frame, frame_side),
-    }
-}
-
-/// The tile of elevations of the same cells.
-fn elevation_of(tile: &Tile) -> Tile
-    ensures { result ≡ elevation_tile tile.now }
-{
-    Tile {
-        family: Family::Elev,
-        cell: tile.cell,
-        level: tile.level,
-        up: tile.up,
-        right: tile.right,
-    }
-}
 
 /// Makes a tile place by place, which needs no room.
 fn build_tile(sources: &[Source], tile: &Tile, frame: &mut [i16])
@@ -145,7 +106,7 @@ fn make_elevations(
     requires frame { length frame.old ≡ tile_side tile.now * tile_side tile.now }
     ensures { IsFrameOf sources.now (elevation_tile tile.now) frame.new }
 {
-    let elevations = elevation_of(tile);
+    let elevations = elevation_tile(tile);
     if Kept::copy(kept, &elevations, frame) {
         return;
     }

@@ -3,22 +3,11 @@ ghost use Rattle.std.specs.Prelude.{◌≡◌, ◌+◌, ◌*◌, ◌≤◌, ◌�
 ghost use Rattle.cdb_grid.specs.Tiles.{tile_side};
 ghost use Rattle.cdb_source.specs.declared.source.Source as given;
 ghost use Rattle.cdb_cut.specs.Window.{rows_of};
-ghost use Rattle.cdb_cut.specs.OneTile.{IsFolded, IsPaintedBy, no_values};
+ghost use Rattle.cdb_cut.specs.OneTile.{IsPaintedBy};
 
 use cdb_cut::{Rows, paint, window};
 use cdb_grid::Tile;
-use cdb_source::{Source, kind_of};
-
-/// Leaves a frame without values.
-pub(crate) fn clear(tile: &Tile, frame: &mut [i16])
-    requires { length frame.old ≡ tile_side tile.now * tile_side tile.now }
-    ensures { (ss : List given.Source) → IsFolded ss tile.now no_values [] frame.new }
-{
-    let none = kind_of(tile.family).no_value();
-    for k in 0..frame.len() {
-        frame[k] = none;
-    }
-}
+use cdb_source::Source;
 
 /// The posts of rows of a source.
 fn posts_of(source: &Source, rows: Rows) -> &[i16]

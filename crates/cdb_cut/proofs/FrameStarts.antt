@@ -12,8 +12,7 @@ use Rattle.cdb_source.specs.Reached.{kind_of}
 use Rattle.cdb_source.specs.declared.kind.Kind.{Kind}
 use Rattle.cdb_source.specs.declared.kind.Kind.TheVariants.{Elevation}
 use Rattle.cdb_source.specs.declared.source.Source.{Source}
-use Rattle.cdb_cut.specs.FinerTiles.{elevation_tile}
-use Rattle.cdb_cut.specs.inside.FinerTiles.{IsPlain}
+use Rattle.cdb_cut.specs.FinerTiles.{elevation_tile, IsPlain}
 use Rattle.cdb_cut.specs.Laws.{IsExtreme}
 use Rattle.cdb_cut.specs.OneTile.{elevations_of, IsElevationOf, IsFolded, no_values}
 use Rattle.cdb_cut.proofs.OneTileWhole.{start_empty}

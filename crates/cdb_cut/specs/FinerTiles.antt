@@ -1,10 +1,12 @@
 -- What a tile is made from: the finer tiles under it, and what its frame begins with.
-use Rattle.std.specs.Prelude.{◌≡◌, pos, ◌<ℤ◌, ◌≤ℤ◌, ℤ, List, [], Any}
+use Rattle.std.specs.Prelude.{◌≡◌, ℕ, pos, ◌<ℤ◌, ◌≤ℤ◌, ℤ, List, [], Any, Option, IfSome}
 use Rattle.cdb_grid.specs.Children.{HasOneChild, HasFourChildren}
 use Rattle.cdb_grid.specs.Grid.{Place}
 use Rattle.cdb_grid.specs.Tiles.{IsInTile}
 use Rattle.cdb_grid.specs.declared.family.Family.TheVariants.{Elev}
 use Rattle.cdb_grid.specs.declared.tile.Tile.{Tile}
+use Rattle.cdb_source.specs.Posts.{none_of}
+use Rattle.cdb_source.specs.Reached.{kind_of}
 
 -- a list has the finer tiles of a tile, in their order
 pub record AreChildren (t : Tile) (items : List Tile) : Type 0 where
@@ -12,6 +14,10 @@ pub record AreChildren (t : Tile) (items : List Tile) : Type 0 where
   pub one : t.level.number <ℤ pos 0 → HasOneChild t items
   pub four : pos 0 ≤ℤ t.level.number → t.level.number <ℤ pos 23 → HasFourChildren t items
   pub fill : t.level.number <ℤ pos 23 → (p : Place) → IsInTile t p → Any (λ c. IsInTile c p) items
+
+-- no value is the number that stands for none
+abbrev pub IsPlain : Tile → (ℕ → ℕ → Option ℤ) → Type 0
+IsPlain t start = (row col : ℕ) → IfSome (start row col) (λ v. v ≡ none_of (kind_of t.family) → ⊥)
 
 -- the tile of elevations of the same cells
 abbrev pub elevation_tile : Tile → Tile

@@ -5,6 +5,7 @@ mod average;
 mod axis;
 mod blend;
 mod filling;
+mod folding;
 pub mod laws;
 mod paint_rows;
 mod painting;
@@ -15,6 +16,7 @@ mod tile_part;
 mod walk;
 
 pub use filling::fill;
+pub use folding::{clear, elevation_tile, fold};
 pub use painting::paint;
 pub use sampling::{sample, sample_at};
 pub use source_rows::{Rows, window};

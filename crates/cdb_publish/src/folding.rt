@@ -1,16 +1,14 @@
 //! The finer tiles under a tile, folded in one after the other.
-ghost use Rattle.std.specs.Prelude.{◌≡◌, ℕ, ◌+◌, ◌*◌, ◌/◌, ◌%◌, ◌≤◌, ◌++◌, ◌∷◌, [], List, ℤ, Option, All, length};
+ghost use Rattle.std.specs.Prelude.{◌≡◌, ℕ, ◌+◌, ◌*◌, ◌≤◌, ◌++◌, ◌∷◌, [], List, ℤ, Option, All, length};
 ghost use Rattle.std.specs.Prelude.{OnOk, IfErr};
 ghost use Rattle.cdb_grid.specs.Children.{IsParent};
-ghost use Rattle.cdb_grid.specs.Frames.{IsPartChanged, four_under};
 ghost use Rattle.cdb_grid.specs.Tiles.{tile_side};
 ghost use Rattle.cdb_grid.specs.declared.tile.Tile as grid;
 ghost use Rattle.cdb_source.specs.declared.source.Source as given;
 ghost use Rattle.cdb_files.specs.Moments.{Rests};
-ghost use Rattle.cdb_cut.specs.OneTile.{four_rule, IsFolded, IsWholeFolded};
+ghost use Rattle.cdb_cut.specs.OneTile.{IsFolded, IsWholeFolded};
 ghost use Rattle.cdb_publish.specs.Causes.{IsCaused};
-ghost use Rattle.cdb_cut.specs.FinerTiles.{AreChildren};
-ghost use Rattle.cdb_cut.specs.inside.FinerTiles.{IsPlain};
+ghost use Rattle.cdb_cut.specs.FinerTiles.{AreChildren, IsPlain};
 ghost use Rattle.cdb_publish.specs.LookUps.{look, needs_of, child_needs};
 ghost use Rattle.cdb_publish.specs.inside.LookUps.{IsNamed};
 ghost use Rattle.cdb_publish.specs.Needs.{TellsSizes, IsDamage};
@@ -20,33 +18,9 @@ use crate::look_up::look;
 use crate::plan::Plan;
 use crate::tile_read::read_named;
 use cdb_chain::Chain;
+use cdb_cut::fold;
 use cdb_files::Disk;
-use cdb_grid::{Family, Spot, Tile, side, spot_of};
-
-/// Folds a finer tile into the part of a frame that it stands under, by the rule of its family.
-fn fold(
-    family: Family,
-    child: &[i16],
-    child_side: u32,
-    spot: Spot,
-    frame: &mut [i16],
-    frame_side: u32,
-)
-    requires even { child_side % 2 ≡ 0 }
-    requires child { length child.now ≡ child_side * child_side }
-    requires frame { length frame.old ≡ frame_side * frame_side }
-    requires row_fits { spot.row + child_side / 2 ≤ frame_side }
-    requires col_fits { spot.col + child_side / 2 ≤ frame_side }
-    ensures { IsPartChanged (four_under (four_rule family) child.now child_side) spot.row spot.col (child_side / 2)
-        (child_side / 2) frame_side frame.old frame.new }
-{
-    match family {
-        Family::Elev => cdb_elev::fold(child, child_side, spot, frame, frame_side),
-        Family::Low => cdb_minmax::fold_low(child, child_side, spot, frame, frame_side),
-        Family::High => cdb_minmax::fold_high(child, child_side, spot, frame, frame_side),
-        Family::Mat => cdb_material::fold(child, child_side, spot, frame, frame_side),
-    }
-}
+use cdb_grid::{Tile, side, spot_of};
 
 /// Folds one finer tile in, where it is named. `bytes` and `scratch` have room for the largest tile.
 fn fold_child<D: Disk>(

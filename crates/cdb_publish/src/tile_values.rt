@@ -1,10 +1,10 @@
 //! The values of a tile, by its family.
-ghost use Rattle.std.specs.Prelude.{◌≡◌, ◌+◌, ◌*◌, ◌≤◌, ◌++◌, [], List, length, OnOk, IfErr};
+ghost use Rattle.std.specs.Prelude.{◌≡◌, ◌+◌, ◌*◌, ◌≤◌, ◌++◌, List, length, OnOk, IfErr};
 ghost use Rattle.cdb_grid.specs.Tiles.{tile_side};
 ghost use Rattle.cdb_source.specs.declared.source.Source as given;
 ghost use Rattle.cdb_files.specs.Moments.{Rests};
 ghost use Rattle.cdb_cut.specs.Laws.{IsOwn, IsExtreme};
-ghost use Rattle.cdb_cut.specs.OneTile.{IsFrameOf, IsFolded, no_values};
+ghost use Rattle.cdb_cut.specs.OneTile.{IsFrameOf};
 ghost use Rattle.cdb_publish.specs.Causes.{IsCaused};
 ghost use Rattle.cdb_cut.specs.FinerTiles.{AreChildren, elevation_tile};
 ghost use Rattle.cdb_publish.specs.TileFiles.{own_needs, extreme_needs, family_needs};
@@ -19,33 +19,9 @@ use crate::plan::Plan;
 use crate::tile_read::read_tile;
 use crate::windows::paint_sources;
 use cdb_chain::Chain;
+use cdb_cut::{clear, elevation_tile};
 use cdb_files::Disk;
 use cdb_grid::{Family, Tile};
-use cdb_source::kind_of;
-
-/// Leaves a frame without values.
-fn clear(tile: &Tile, frame: &mut [i16])
-    requires { length frame.old ≡ tile_side tile.now * tile_side tile.now }
-    ensures { (ss : List given.Source) → IsFolded ss tile.now no_values [] frame.new }
-{
-    let none = kind_of(tile.family).no_value();
-    for k in 0..frame.len() {
-        frame[k] = none;
-    }
-}
-
-/// The tile of elevations of the same cells.
-fn elevation_of(tile: &Tile) -> Tile
-    ensures { result ≡ elevation_tile tile.now }
-{
-    Tile {
-        family: Family::Elev,
-        cell: tile.cell,
-        level: tile.level,
-        up: tile.up,
-        right: tile.right,
-    }
-}
 
 /// Makes the values of a tile of elevations or of materials.
 fn make_own<D: Disk>(
@@ -120,7 +96,7 @@ fn make_extreme<D: Disk>(
     ensures reads { D.read_count disk.new ≤ D.read_count disk.old + length
         (extreme_needs plan.now chain.now.records tile.now children.now) }
 {
-    let elevations = elevation_of(tile);
+    let elevations = elevation_tile(tile);
     match read_tile(plan.record.version, &elevations, bytes, frame, disk) {
         Ok(()) => {}
         Err(error) => return Err(error),

@@ -1,7 +1,7 @@
 use Rattle.std.proofs.Common.{ℕ, ◌+◌, ◌*◌, ℤ, [], Option, take}
 use Rattle.cdb_grid.specs.Tiles.{tile_height}
 use Rattle.cdb_cut.specs.OneTile.{IsFolded}
-use Rattle.cdb_cut.specs.inside.FinerTiles.{IsPlain}
+use Rattle.cdb_cut.specs.FinerTiles.{IsPlain}
 use Rattle.cdb_check.proofs.making.+making.Given as goal
 
 abbrev pub decreases-make_tile : goal.decreases-make_tile

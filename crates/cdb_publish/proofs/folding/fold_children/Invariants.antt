@@ -2,7 +2,7 @@ use Rattle.std.proofs.Common.{◌≡◌, ℕ, ◌+◌, ◌≤◌, ℤ, List, [],
 use Rattle.cdb_source.specs.declared.source.Source.{Source}
 use Rattle.cdb_files.specs.Moments.{Rests}
 use Rattle.cdb_cut.specs.OneTile.{IsFolded}
-use Rattle.cdb_cut.specs.inside.FinerTiles.{IsPlain}
+use Rattle.cdb_cut.specs.FinerTiles.{IsPlain}
 use Rattle.cdb_publish.specs.LookUps.{look, child_needs}
 use Rattle.cdb_publish.specs.inside.LookUps.{IsNamed}
 use Rattle.cdb_publish.specs.Needs.{AreSized}

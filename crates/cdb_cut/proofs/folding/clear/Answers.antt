@@ -6,7 +6,7 @@ use Rattle.cdb_grid.proofs.FrameLaws.{row-start, row-more}
 use Rattle.cdb_source.specs.Posts.{none_of}
 use Rattle.cdb_source.specs.Reached.{kind_of}
 use Rattle.cdb_cut.proofs.FrameStarts.{cleared}
-use Rattle.cdb_publish.proofs.tile_values.clear.Goals as goal
+use Rattle.cdb_cut.proofs.folding.clear.Goals as goal
 
 pub loop-k-init : goal.loop-k-init
 loop-k-init c = row-start _ _
