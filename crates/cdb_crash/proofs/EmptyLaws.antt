@@ -5,8 +5,9 @@ use Rattle.cdb_model.specs.Maps.{Text, Content, FileMap, IsThere, put}
 use Rattle.cdb_model.specs.Names.{head_path, new_head_path}
 use Rattle.cdb_model.specs.Stands.{ArePublications, HasVersion, IsInVersions, Stands}
 use Rattle.cdb_model.proofs.MapLaws.{put-same, put-other, same_text}
+use Rattle.cdb_files.specs.Disk.{empty_disk}
 use Rattle.cdb_crash.specs.Leftovers.{IsOfVersion}
-use Rattle.cdb_crash.specs.Laws.{EmptyStore, empty_disk}
+use Rattle.cdb_crash.specs.Laws.{EmptyStore}
 use Rattle.cdb_crash.proofs.Paths.{not_head, at_most-none, at_most-one}
 use Rattle.cdb_crash.proofs.HeadSteps.{heads_differ}
 use Rattle.cdb_crash.proofs.HeadTexts.{gap}

@@ -10,11 +10,11 @@ use Rattle.cdb_model.specs.Publications.{heads_of}
 use Rattle.cdb_model.specs.Maps.{Text, Content, folder_above}
 use Rattle.cdb_model.specs.Records.{head_file_text}
 use Rattle.cdb_model.specs.Stands.{ArePublications, IsPublication, IsEntryCount, Stands}
-use Rattle.cdb_files.specs.Disk.{State, Possible, IsImage, Allows, after_sync, after_sync_dir}
+use Rattle.cdb_files.specs.Disk.{State, empty_disk, Possible, IsImage, Allows, after_sync, after_sync_dir}
 use Rattle.cdb_files.specs.Whole.{after_write}
 use Rattle.cdb_crash.specs.Leftovers.{HasNext}
 use Rattle.cdb_crash.specs.Crash.{IsClean, IsMid, IsReadyForHead, head_renamed, head_synced}
-use Rattle.cdb_crash.specs.Laws.{PlanKeeps, Publishes, EveryList, empty_disk}
+use Rattle.cdb_crash.specs.Laws.{PlanKeeps, Publishes, EveryList}
 use Rattle.cdb_crash.specs.Plan.{FileAction, steps_of, after_step, after_steps, files_after, synced_after, IsMidAfter}
 use Rattle.cdb_crash.proofs.CallLaws.{write-here}
 use Rattle.cdb_crash.proofs.HeadLaws.{renamed-here, head_step}

@@ -9,7 +9,7 @@ use Rattle.cdb_model.specs.Names.{version_folder, head_path, new_head_path}
 use Rattle.cdb_model.specs.Publications.{heads_of, step_count}
 use Rattle.cdb_model.specs.Records.{head_file_text}
 use Rattle.cdb_model.specs.Stands.{ArePublications, IsVersionFile, Stands as store}
-use Rattle.cdb_files.specs.Disk.{State, IsImage, IsSettledAt, after_create, after_append, after_sync_file, after_sync_dir, after_rename, after_remove, after_make_dir, Fails, FailsAppend, FailsMakeDir}
+use Rattle.cdb_files.specs.Disk.{State, empty_disk, IsImage, IsSettledAt, after_create, after_append, after_sync_file, after_sync_dir, after_rename, after_remove, after_make_dir, Fails, FailsAppend, FailsMakeDir}
 use Rattle.cdb_files.specs.Moments.{IsBetween}
 use Rattle.cdb_files.specs.Whole.{IsImageBut, after_write}
 use Rattle.cdb_crash.specs.Leftovers.{IsOfVersion, IsLeftover, HasAtMost, HasNext}
@@ -61,10 +61,6 @@ pub record OwnPaths : Type 0 where
   pub apart : (j k : ℕ) (path : Text) → j ≤ MOST_VERSIONS + 1 → k ≤ MOST_VERSIONS + 1 → IsOfVersion j path → IsOfVersion k path → j ≡ k
   pub head : (k : ℕ) → k ≤ MOST_VERSIONS + 1 → IsOfVersion k head_path → ⊥
   pub new_head : (k : ℕ) → k ≤ MOST_VERSIONS + 1 → IsOfVersion k new_head_path → ⊥
-
--- A disk that was never written.
-abbrev pub empty_disk : State
-empty_disk = record { present = λ path. None; may = λ path. Some (None ∷ []); made = λ folder. false }
 
 module _ {X : Type 0} (Stands : FileMap → List X → Type 0) where
   -- A map stands for at most one list.

@@ -1,5 +1,5 @@
 -- The states of a disk, and what each call makes of one.
-use Rattle.std.specs.Prelude.{◌≡◌, ℕ, ◌≤◌, ◌||◌, Bool, ◌⊎◌, List, [], ◌∷◌, ◌++◌, length, take, Option, None, Some, IsTrue, if◌then◌else◌}
+use Rattle.std.specs.Prelude.{◌≡◌, ℕ, ◌≤◌, ◌||◌, Bool, false, ◌⊎◌, List, [], ◌∷◌, ◌++◌, length, take, Option, None, Some, IsTrue, if◌then◌else◌}
 use Rattle.std.specs.Str.{bytes_eq}
 use Rattle.cdb_model.specs.Maps.{Text, Content, FileMap, put, folder_above, is_at_or_above}
 
@@ -21,6 +21,10 @@ pub record State : Type 0 where
   pub present : FileMap
   pub may : Text → Possible
   pub made : Text → Bool
+
+-- A disk without files and without folders.
+abbrev pub empty_disk : State
+empty_disk = record { present = λ path. None; may = λ path. Some (None ∷ []); made = λ folder. false }
 
 -- A map that a crash may leave: at each path one of its possibilities.
 abbrev pub IsImage : State → FileMap → Type 0

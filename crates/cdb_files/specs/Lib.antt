@@ -1,4 +1,3 @@
 pub mod Disk
 pub mod Moments
 pub mod Whole
-pub mod inside

@@ -1,5 +1,5 @@
 -- The moments of a disk by its clock, and the images since one of them.
-use Rattle.std.specs.Prelude.{◌≡◌, ℕ, ◌≤◌, ◌⊎◌}
+use Rattle.std.specs.Prelude.{◌≡◌, ℕ, ◌≤◌, ◌<◌, ◌⊎◌}
 use Rattle.cdb_model.specs.Maps.{Text, FileMap}
 use Rattle.cdb_files.specs.Disk.{State, Allows}
 
@@ -18,6 +18,10 @@ pub record Rests (before now : ℕ) (past since : ℕ → FileMap → Type 0) : 
   pub same : now ≡ before
   pub nothing_else : (t : ℕ) (m : FileMap) → since t m → past t m
   pub keeps : (t : ℕ) (m : FileMap) → past t m → since t m
+
+-- The clock moves on in a call that changes the map or a possibility.
+abbrev pub Moves : ℕ → ℕ → State → State → Type 0
+Moves before now old new = ((new.present ≡ old.present) × (new.may ≡ old.may)) ⊎ (before < now)
 
 -- A run of calls from one disk to another, whose images since an earlier moment are those from before the run and some of P.
 pub record AddsOnly {D : Type 0} (clock : D → ℕ) (since : D → ℕ → FileMap → Type 0) (old new : D) (P : FileMap → Type 0) : Type 0 where

@@ -2,8 +2,7 @@ ghost use Rattle.std.specs.Prelude.{◌≡◌, ◌≢◌, ◌≤◌, ◌+◌, �
 ghost use Rattle.cdb_model.specs.Causes.{HasCause};
 ghost use Rattle.cdb_model.specs.Maps.{FileMap, folder_above, size_of, HasBytesUpTo, HasAt, IsThere, NoneUnder, IsFirstUnder};
 ghost use Rattle.cdb_files.specs.Disk.{State, IsImage, IsMade, IsSettledAt, after_create, after_append, after_sync_file, after_sync_dir, after_rename, after_remove, after_make_dir, Fails, FailsAppend, FailsMakeDir};
-ghost use Rattle.cdb_files.specs.inside.Disk.{Moves};
-ghost use Rattle.cdb_files.specs.Moments.{IsBetween, Elapses, Rests};
+ghost use Rattle.cdb_files.specs.Moments.{IsBetween, Elapses, Rests, Moves};
 
 use crate::{Failed, Path};
 

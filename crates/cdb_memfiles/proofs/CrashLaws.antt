@@ -3,10 +3,10 @@ use Rattle.std.proofs.Common.{◌≡◌, ◌≢◌, ◌<◌, length, arith, ℕ,
 use Rattle.std.specs.Str.{bytes_eq}
 use Rattle.cdb_model.specs.Maps.{Text, Content, FileMap, put, folder_above}
 use Rattle.cdb_model.proofs.MapLaws.{put-same, put-other, same_text}
-use Rattle.cdb_files.specs.Disk.{State, Possible, Allows, IsImage, with_piece, settled, after_sync, added, after_create, after_append, after_sync_file, after_sync_dir, after_rename, after_remove, after_make_dir}
+use Rattle.cdb_files.specs.Disk.{State, empty_disk, Possible, Allows, IsImage, with_piece, settled, after_sync, added, after_create, after_append, after_sync_file, after_sync_dir, after_rename, after_remove, after_make_dir}
 use Rattle.cdb_memfiles.specs.Crash.{picked, half, first_possible, torn_possible, IsPicked, or_else, only_made, IsSettled}
 use Rattle.cdb_memfiles.specs.inside.Crash.{restored_map}
-use Rattle.cdb_memfiles.specs.History.{after_restore, blank_disk, apply, replay}
+use Rattle.cdb_memfiles.specs.History.{after_restore, apply, replay}
 use Rattle.cdb_memfiles.specs.declared.call.Call.{Call}
 use Rattle.cdb_memfiles.specs.declared.call.Call.TheVariants.{MakeDir, Create, Append, SyncFile, SyncDir, Rename, Remove, Restore}
 use Rattle.arrayvec.specs.ArrayString.{ArrayString}
@@ -149,8 +149,8 @@ nothing-picked Newest = refl
 nothing-picked Oldest = refl
 nothing-picked Torn = refl
 
-pub shows-blank : (t : Text → Shown) → ((q : Text) → t q ≡ never_named) → ShowsFiles t blank_disk
-shows-blank t empty q = let P : Shown → Type 0 = λ x. ShowsAt x None (Some (None ∷ [])) in subst P (sym (empty q)) (refl, ([], refl))
+pub shows-empty : (t : Text → Shown) → ((q : Text) → t q ≡ never_named) → ShowsFiles t empty_disk
+shows-empty t empty q = let P : Shown → Type 0 = λ x. ShowsAt x None (Some (None ∷ [])) in subst P (sym (empty q)) (refl, ([], refl))
 
 -- One path is taken out of the table, and restored where something was picked for it.
 pub picked-step : (pick : Pick) (goal present later : FileMap) (t : Text → Shown) (p : Text) (w : Content) → picked_shown pick (t p) ≡ w
@@ -235,7 +235,7 @@ settled-restore p bytes s h q = cases (same_text q p)
         subst P (sym e) (put-same s.may p (Some (Some bytes ∷ [])) ∙ ap (λ v. Some (v ∷ [])) (sym (put-same s.present p (Some bytes))))
     cases (inr ne) = put-other s.may p (Some (Some bytes ∷ [])) q ne ∙ h q ∙ ap (λ v. Some (v ∷ [])) (sym (put-other s.present p (Some bytes) q ne))
 
-pub replay-empty : (calls : List Call) → calls ≡ [] → replay calls ≡ blank_disk
+pub replay-empty : (calls : List Call) → calls ≡ [] → replay calls ≡ empty_disk
 unfolding replay
 replay-empty calls e = ap replay e
 

@@ -11,7 +11,7 @@ use Rattle.cdb_memfiles.specs.declared.call.Call.{Call}
 use Rattle.cdb_memfiles.specs.declared.call.Call.TheVariants.{Append}
 use Rattle.cdb_memfiles.specs.History.{apply, replay, HasBeen}
 use Rattle.cdb_memfiles.specs.inside.HistoryLaws.{replay-push}
-use Rattle.cdb_memfiles.specs.inside.Calls.{Changes}
+use Rattle.cdb_memfiles.specs.Calls.{Changes}
 use Rattle.cdb_memfiles.specs.MemDisk.{history, disk_state, clock_of, since_of}
 use Rattle.cdb_memfiles.specs.declared.mem_disk.MemDisk.{MemDisk}
 

@@ -1,7 +1,7 @@
 -- What a disk in memory has done, and what it holds by that.
-use Rattle.std.specs.Prelude.{ℕ, ◌≤◌, false, List, [], ◌∷◌, length, take, None, Some, fold}
+use Rattle.std.specs.Prelude.{ℕ, ◌≤◌, List, [], ◌∷◌, length, take, Some, fold}
 use Rattle.cdb_model.specs.Maps.{Text, FileMap, put}
-use Rattle.cdb_files.specs.Disk.{State, IsImage, after_create, after_append, after_sync_file, after_sync_dir, after_rename, after_remove, after_make_dir}
+use Rattle.cdb_files.specs.Disk.{State, empty_disk, IsImage, after_create, after_append, after_sync_file, after_sync_dir, after_rename, after_remove, after_make_dir}
 use Rattle.cdb_memfiles.specs.declared.call.Call.{Call}
 use Rattle.cdb_memfiles.specs.declared.call.Call.TheVariants.{MakeDir, Create, Append, SyncFile, SyncDir, Rename, Remove, Restore}
 
@@ -20,13 +20,9 @@ apply (Rename from to) s = after_rename from.bytes to.bytes s
 apply (Remove path) s = after_remove path.bytes s
 apply (Restore path bytes) s = after_restore path.bytes bytes.items s
 
--- A disk without files and without folders.
-abbrev pub blank_disk : State
-blank_disk = record { present = λ _. None; may = λ _. Some (None ∷ []); made = λ _. false }
-
 -- The state that the calls lead to, one after another.
 unfoldable pub replay : List Call → State
-replay calls = fold (λ s call. apply call s) blank_disk calls
+replay calls = fold (λ s call. apply call s) empty_disk calls
 
 -- A map that a crash may have left before one of the calls from the `t`-th on, or may leave now.
 unfoldable pub HasBeen : List Call → ℕ → FileMap → Type 0

@@ -1,6 +1,7 @@
 pub mod Files
 pub mod History
 pub mod Schedule
+pub mod Calls
 pub mod Shelf
 pub mod Record
 pub mod MemDisk

@@ -1,4 +1,3 @@
 -- Definitions that functions inside the crate cite, and no public contract.
-pub mod Calls
 pub mod Crash
 pub mod HistoryLaws

@@ -3,7 +3,7 @@ ghost use Rattle.cdb_model.specs.Maps.{Text};
 ghost use Rattle.cdb_files.specs.Disk.{State};
 ghost use Rattle.cdb_memfiles.specs.Crash.{only_made, IsSettled};
 ghost use Rattle.cdb_memfiles.specs.inside.Crash.{restored_map};
-ghost use Rattle.cdb_memfiles.specs.History.{apply, blank_disk, replay};
+ghost use Rattle.cdb_memfiles.specs.History.{apply, replay};
 ghost use Rattle.cdb_memfiles.specs.Standing.{shown, shown_by, picked_shown, ShowsFiles};
 
 use crate::call::Call;

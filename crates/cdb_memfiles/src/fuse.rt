@@ -2,7 +2,7 @@ ghost use Rattle.std.specs.Prelude.{◌≡◌, ◌≢◌, ◌≤◌, ◌+◌, �
 ghost use Rattle.cdb_model.specs.Causes.{HasCause};
 ghost use Rattle.cdb_model.specs.Maps.{folder_above, HasBytesUpTo, IsThere};
 ghost use Rattle.cdb_files.specs.Disk.{IsMade, IsSettledAt, after_create, after_append, after_sync_file, after_sync_dir, after_rename, after_remove, after_make_dir, Fails, FailsMakeDir};
-ghost use Rattle.cdb_memfiles.specs.inside.Calls.{TellsSize, GivesBytes, TellsFirst, Reads, Changes, IsUnchanged, AddsPart};
+ghost use Rattle.cdb_memfiles.specs.Calls.{TellsSize, GivesBytes, TellsFirst, Reads, Changes, IsUnchanged, AddsPart};
 ghost use Rattle.cdb_memfiles.specs.Schedule.{one_more};
 
 use crate::mem_disk::MemDisk;

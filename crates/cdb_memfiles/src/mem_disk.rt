@@ -1,7 +1,7 @@
 ghost use Rattle.std.specs.Prelude.{◌≡◌, ◌≢◌, ◌≤◌, [], length, IfOk, OnErr};
 ghost use Rattle.cdb_model.specs.Maps.{HasBytesUpTo, IsThere};
 ghost use Rattle.cdb_files.specs.Disk.{IsImage, after_create, after_append, after_sync_file, after_sync_dir, after_rename, after_remove, after_make_dir, Fails, FailsMakeDir};
-ghost use Rattle.cdb_memfiles.specs.inside.Calls.{TellsSize, GivesBytes, TellsFirst, Changes, IsUnchanged, AddsPart};
+ghost use Rattle.cdb_memfiles.specs.Calls.{TellsSize, GivesBytes, TellsFirst, Changes, IsUnchanged, AddsPart};
 ghost use Rattle.cdb_memfiles.specs.Crash.{IsCrashed};
 ghost use Rattle.cdb_memfiles.specs.inside.HistoryLaws.{present_is_possible, counts_now_too, nothing_later};
 ghost use Rattle.cdb_memfiles.specs.Schedule.{one_more};

@@ -1,6 +1,6 @@
 ghost use Rattle.std.specs.Prelude.{◌≡◌, OnErr, length};
 ghost use Rattle.cdb_model.specs.Maps.{HasBytesUpTo};
-ghost use Rattle.cdb_memfiles.specs.inside.Calls.{TellsSize, GivesBytes};
+ghost use Rattle.cdb_memfiles.specs.Calls.{TellsSize, GivesBytes};
 ghost use Rattle.cdb_memfiles.specs.Files.{content};
 ghost use Rattle.cdb_memfiles.specs.Schedule.{FailsAsListed};
 

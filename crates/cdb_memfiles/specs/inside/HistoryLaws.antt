@@ -4,15 +4,15 @@ use Rattle.std.proofs.lemmas.List.Sums.{fold_push}
 use Rattle.std.specs.Str.{bytes_eq}
 use Rattle.cdb_model.specs.Maps.{Text, Content, FileMap, put, folder_above}
 use Rattle.cdb_model.proofs.MapLaws.{put-same, put-other, same_text}
-use Rattle.cdb_files.specs.Disk.{State, Possible, IsOneOf, Allows, IsImage, with_piece, settled, after_sync, added, after_create, after_append, after_sync_file, after_sync_dir, after_rename, after_remove, after_make_dir}
+use Rattle.cdb_files.specs.Disk.{State, empty_disk, Possible, IsOneOf, Allows, IsImage, with_piece, settled, after_sync, added, after_create, after_append, after_sync_file, after_sync_dir, after_rename, after_remove, after_make_dir}
 use Rattle.cdb_memfiles.specs.declared.call.Call.{Call}
 use Rattle.cdb_memfiles.specs.declared.call.Call.TheVariants.{MakeDir, Create, Append, SyncFile, SyncDir, Rename, Remove, Restore}
-use Rattle.cdb_memfiles.specs.History.{apply, blank_disk, replay, HasBeen, after_restore}
+use Rattle.cdb_memfiles.specs.History.{apply, replay, HasBeen, after_restore}
 
 -- ---- one call more
 pub replay-push : (calls : List Call) (call : Call) → replay (calls ++ call ∷ []) ≡ apply call (replay calls)
 unfolding replay
-replay-push calls call = fold_push (λ s call. apply call s) blank_disk calls call
+replay-push calls call = fold_push (λ s call. apply call s) empty_disk calls call
 
 -- ---- the present map is an image
 -- The value at one path and what is possible there change, and fit each other.
@@ -103,7 +103,7 @@ image-apply (Restore path bytes) s h = image-restore path.bytes bytes.items s h
 
 pub present_is_possible : (calls : List Call) → IsImage (replay calls) (replay calls).present
 unfolding replay
-present_is_possible calls = from blank_disk (λ q. inl refl) calls
+present_is_possible calls = from empty_disk (λ q. inl refl) calls
   where
     from : (s : State) → IsImage s s.present → (calls : List Call) → IsImage (fold (λ s call. apply call s) s calls) (fold (λ s call. apply call s) s calls).present
     from s h [] = h

@@ -3,7 +3,7 @@ use Rattle.cdb_files.specs.Disk.{State}
 use Rattle.cdb_memfiles.specs.History.{replay}
 use Rattle.cdb_memfiles.specs.inside.HistoryLaws.{replay-push}
 use Rattle.cdb_memfiles.specs.Standing.{shown, ShowsFiles}
-use Rattle.cdb_memfiles.proofs.CrashLaws.{replay-empty, shows-blank}
+use Rattle.cdb_memfiles.proofs.CrashLaws.{replay-empty, shows-empty}
 use Rattle.cdb_memfiles.proofs.StandingLaws.{shown-empty}
 use Rattle.cdb_memfiles.proofs.crash.standings.Goals as goal
 
@@ -11,7 +11,7 @@ pub calls-init : goal.calls-init
 calls-init c =
     let t = shown c.new-table.result in
     let P : State → Type 0 = ShowsFiles t in
-    subst P (sym (replay-empty [] refl)) (shows-blank t (shown-empty c.new-table.result c.new-table.ensures.empty))
+    subst P (sym (replay-empty [] refl)) (shows-empty t (shown-empty c.new-table.result c.new-table.ensures.empty))
 
 pub calls-preserved : goal.calls-preserved
 calls-preserved c =

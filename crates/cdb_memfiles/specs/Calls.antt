@@ -3,8 +3,7 @@ use Rattle.std.specs.Prelude.{◌≡◌, ℕ, List, Option, Result, IfOk, OnOk, 
 use Rattle.arrayvec.specs.ArrayString.{ArrayString}
 use Rattle.cdb_model.specs.Maps.{Text, FileMap, size_of, HasAt, NoneUnder, IsFirstUnder}
 use Rattle.cdb_files.specs.Disk.{State, FailsAppend}
-use Rattle.cdb_files.specs.inside.Disk.{Moves}
-use Rattle.cdb_files.specs.Moments.{IsBetween, Elapses, Rests}
+use Rattle.cdb_files.specs.Moments.{IsBetween, Elapses, Rests, Moves}
 
 -- The size of a file is told.
 abbrev pub TellsSize : {E : Type 0} → FileMap → Text → Result (Option ℕ) E → Type 0

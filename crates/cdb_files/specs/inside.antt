@@ -1,2 +1,0 @@
--- Definitions that functions inside the crate cite, and no public contract.
-pub mod Disk
