@@ -1,6 +1,5 @@
 -- What a line of the script says to the machine.
-use Rattle.std.specs.Prelude.{◌≡◌, Option, Some, None, length, nat_le, if◌then◌else◌}
-use Rattle.cdb_source.specs.declared.kind.Kind.TheVariants.{Material}
+use Rattle.std.specs.Prelude.{Option, Some, None, length, nat_le, if◌then◌else◌}
 use Rattle.cdb_model.specs.Grammar as grammar
 use Rattle.cdb_model.specs.Grammar.{Sentence, line_of}
 use Rattle.cdb_model.specs.Text.{Text}
@@ -27,10 +26,3 @@ spoken (Some sentence) = said sentence
 
 unfoldable pub line_command : Text → Command
 line_command line = if nat_le (length line) 4096 then spoken (line_of line) else overlong
-
--- the sentences that aren't answered yet: a source of materials, and so many steps
-abbrev pub IsUnbuilt : Sentence → Type 0
-IsUnbuilt (grammar.inline w) = w.head.kind ≡ Material
-IsUnbuilt (grammar.source w) = w.head.kind ≡ Material
-IsUnbuilt (grammar.step n) = Unit {0}
-IsUnbuilt _ = ⊥

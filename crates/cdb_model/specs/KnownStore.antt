@@ -6,7 +6,7 @@ use Rattle.cdb_model.specs.Grammar.{InlineSource, FileSource}
 use Rattle.cdb_model.specs.Maps.{Content}
 use Rattle.cdb_model.specs.Publications.{Publication}
 use Rattle.cdb_model.specs.Stores.{known_store}
-use Rattle.cdb_model.specs.Transitions.{StateIn, GoingIn, IsIdleIn, IsBusyIn, IsPendingIn, IsPlannedIn, InlineLineIn, SourceLineIn, BegunIn, PublishLineIn, MovedIn, PublishedIn, GivenUpIn, AdvancesIn, MakesIn, HasLeftIn, StepLineIn, StepAllLineIn, OpenLineIn, TileLineIn, CloseLineIn, VersionsLineIn, StepIn}
+use Rattle.cdb_model.specs.Transitions.{StateIn, GoingIn, IsIdleIn, IsBusyIn, IsPendingIn, IsPlannedIn, InlineLineIn, SourceLineIn, BegunIn, PublishLineIn, PublishedIn, GivenUpIn, HasLeftIn, StepLineIn, StepAllLineIn, OpenLineIn, TileLineIn, CloseLineIn, VersionsLineIn, StepIn}
 
 abbrev pub KnownState : Type 0
 KnownState = StateIn known_store
@@ -42,20 +42,11 @@ Begun = BegunIn known_store
 abbrev pub PublishLine : KnownState → Answer → KnownState → Type 0
 PublishLine = PublishLineIn known_store
 
-abbrev pub Moved : KnownState → KnownState → Type 0
-Moved = MovedIn known_store
-
 abbrev pub Published : KnownState → ℕ → KnownState → Type 0
 Published = PublishedIn known_store
 
 abbrev pub GivenUp : KnownState → KnownState → Type 0
 GivenUp = GivenUpIn known_store
-
-abbrev pub Advances : KnownState → Answer → KnownState → Type 0
-Advances = AdvancesIn known_store
-
-abbrev pub Makes : ℕ → KnownState → Answer → KnownState → Type 0
-Makes = MakesIn known_store
 
 abbrev pub HasLeft : Option Going → ℕ → Type 0
 HasLeft = HasLeftIn known_store
