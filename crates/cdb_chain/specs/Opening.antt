@@ -28,7 +28,8 @@ IsTooLong bytes place = (264980 < length bytes) × (place ≡ 264980)
 -- there is no file, or its bytes aren't those of the version's record
 abbrev pub IsBadRecord : Content → ℕ → ℕ → Type 0
 IsBadRecord None version place = place ≡ 0
-IsBadRecord (Some bytes) version place = IsTooLong bytes place ⊎ ((length bytes ≤ 264980) × AreUnfit bytes version place)
+IsBadRecord (Some bytes) version place = IsTooLong bytes place
+    ⊎ ((length bytes ≤ 264980) × AreUnfit bytes version place)
 
 -- each record is that of its version, and stands there where the disk tells
 pub record AreRead (Tells : Type 0) (present : FileMap) (records : List Record) : Type 0 where

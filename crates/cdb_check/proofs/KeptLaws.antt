@@ -269,7 +269,8 @@ agrees_after m list stands earlier (x ∷ later) is (r ∷ records) files of spe
 
 KeptAfter : FileMap → List Publication → List Publication → Type 0
 KeptAfter m earlier [] = Unit {0}
-KeptAfter m earlier (x ∷ later) = (IsPublication x × HasVersionFiles m earlier x) × KeptAfter m (earlier ++ x ∷ []) later
+KeptAfter m earlier (x ∷ later) = (IsPublication x × HasVersionFiles m earlier x)
+    × KeptAfter m (earlier ++ x ∷ []) later
 
 kept_at : (m : FileMap) (before earlier : List Publication) (x : Publication) (later : List Publication)
     → KeptAfter m before (earlier ++ x ∷ later) → IsPublication x × HasVersionFiles m (before ++ earlier) x

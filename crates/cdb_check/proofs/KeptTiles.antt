@@ -8,7 +8,8 @@ use Rattle.cdb_check.specs.Kept.{AreKeptFrames}
 use Rattle.cdb_check.specs.declared.kept.Kept.{Kept}
 
 pub kept_at : (ss : List Source) (entries : List Kept) (k : ℕ) (entry : Kept) (t : Tile) (frame : List ℤ)
-    → AreKeptFrames ss entries → k < length entries → entry ≡ get_or entries k entry → entry.tile ≡ t → frame ≡ entry.frame.items
+    → AreKeptFrames ss entries → k < length entries → entry ≡ get_or entries k entry → entry.tile ≡ t
+    → frame ≡ entry.frame.items
     → IsFrameOf ss t frame
 unfolding AreKeptFrames
 kept_at ss entries k entry t frame kept below at same is =

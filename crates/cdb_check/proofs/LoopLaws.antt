@@ -28,7 +28,8 @@ rests_on a b c r s t x y = record {
 
 pub looks_on : {D : Type 0} (clock : D → ℕ) (since : D → ℕ → FileMap → Type 0) (holds : D → State) (faults : D → ℕ)
     (a b c : D)
-    → OnlyReads clock since holds faults a b → OnlyReads clock since holds faults b c → OnlyReads clock since holds faults a c
+    → OnlyReads clock since holds faults a b → OnlyReads clock since holds faults b c
+    → OnlyReads clock since holds faults a c
 looks_on clock since holds faults a b c x y = record {
   state = y.state ∙ x.state;
   time = rests_on (clock a) (clock b) (clock c) (since a) (since b) (since c) x.time y.time;

@@ -18,7 +18,8 @@ use Rattle.cdb_source.specs.declared.source.Source.{Source}
 use Rattle.cdb_source.proofs.HeadLaws.{one_head, has_head}
 
 pub one_front : (a b : SourceHead) → source_front_text a ≡ source_front_text b → a ≡ b
-one_front a b e = one_head (source_front_text b) a b (has_head (source_front_text b) a (sym e)) (has_head (source_front_text b) b refl)
+one_front a b e = one_head (source_front_text b) a b (has_head (source_front_text b) a (sym e))
+    (has_head (source_front_text b) b refl)
 
 -- a source file has one source, and its length is told by its head
 pub one_source : (a b : Source) → source_text a ≡ source_text b → a ≡ b

@@ -20,7 +20,8 @@ FirstDiffering m list (Err (Differs path)) = FirstOther m list path.bytes
 -- ---- a disk that is only read
 
 -- nothing was written: the disk is as it was, at each moment, and no call was forgotten by its count of faults
-pub record OnlyReads {D : Type 0} (clock : D → ℕ) (since : D → ℕ → FileMap → Type 0) (holds : D → State) (faults : D → ℕ)
+pub record OnlyReads {D : Type 0} (clock : D → ℕ) (since : D → ℕ → FileMap → Type 0) (holds : D → State)
+    (faults : D → ℕ)
     (old new : D) : Type 0 where
   pub state : holds new ≡ holds old
   pub time : Rests (clock old) (clock new) (since old) (since new)

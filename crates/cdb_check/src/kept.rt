@@ -45,7 +45,8 @@ impl Kept {
 
     /// Copies the values of a tile where it is kept, and says whether it is.
     pub(crate) fn copy(entries: &[Kept], tile: &Tile, frame: &mut [i16]) -> bool
-        ensures { IsTrue result → (ss : List given.Source) → AreKeptFrames ss entries.now → IsFrameOf ss tile.now frame.new }
+        ensures { IsTrue result → (ss : List given.Source) → AreKeptFrames ss entries.now
+            → IsFrameOf ss tile.now frame.new }
     {
         for entry in entries {
             let values = entry.frame.as_slice();

@@ -26,7 +26,8 @@ fn check_sources<D: Disk>(
     sources: &mut Vec<Source>,
     disk: &mut D,
 ) -> Result<(), CheckError>
-    ensures finds { D.tells → FirstDiffering (D.state disk.old).present (map a_source (source_files_of «record».now)) result }
+    ensures finds { D.tells
+        → FirstDiffering (D.state disk.old).present (map a_source (source_files_of «record».now)) result }
     ensures spelled { D.tells → (earlier : List SourceFile)
         → SpellAll (D.state disk.old).present earlier sources.old.items
         → OnOk result

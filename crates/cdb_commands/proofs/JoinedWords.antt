@@ -23,16 +23,21 @@ pub one_part : (p : ℕ → Bool) (text : Text) → is_clear p text ≡ true →
 one_part p [] h = refl
 one_part p (c ∷ text) h =
     let t = both (not (p c)) (is_clear p text) h in
-    ap (λ b. cond b ([] ∷ slice_split p text) (onto_first c (slice_split p text))) (not_true (p c) t.0) ∙ ap (onto_first c) (one_part p text t.1)
+    ap (λ b. cond b ([] ∷ slice_split p text) (onto_first c (slice_split p text))) (not_true (p c) t.0)
+    ∙ ap (onto_first c) (one_part p text t.1)
 
-pub part_before : (p : ℕ → Bool) (text : Text) (y : ℕ) (rest : Text) → is_clear p text ≡ true → p y ≡ true → slice_split p (text ++ y ∷ rest) ≡ text ∷ slice_split p rest
+pub part_before : (p : ℕ → Bool) (text : Text) (y : ℕ) (rest : Text) → is_clear p text ≡ true → p y ≡ true
+    → slice_split p (text ++ y ∷ rest) ≡ text ∷ slice_split p rest
 part_before p [] y rest h e = ap (λ b. cond b ([] ∷ slice_split p rest) (onto_first y (slice_split p rest))) e
 part_before p (c ∷ text) y rest h e =
     let t = both (not (p c)) (is_clear p text) h in
-    ap (λ b. cond b ([] ∷ slice_split p (text ++ y ∷ rest)) (onto_first c (slice_split p (text ++ y ∷ rest)))) (not_true (p c) t.0) ∙ ap (onto_first c) (part_before p text y rest t.1 e)
+    ap (λ b. cond b ([] ∷ slice_split p (text ++ y ∷ rest)) (onto_first c (slice_split p (text ++ y ∷ rest))))
+    (not_true (p c) t.0) ∙ ap (onto_first c) (part_before p text y rest t.1 e)
 
-pub joined : (w : Text) (ws : List Text) → list_all has_no_space (w ∷ ws) ≡ true → words (join_with_byte 32 (w ∷ ws)) ≡ w ∷ ws
+pub joined : (w : Text) (ws : List Text) → list_all has_no_space (w ∷ ws) ≡ true
+    → words (join_with_byte 32 (w ∷ ws)) ≡ w ∷ ws
 joined w [] h = one_part is_space w (both (has_no_space w) true h).0
 joined w (v ∷ ws) h =
     let t = both (has_no_space w) (list_all has_no_space (v ∷ ws)) h in
-    part_before is_space w 32 (join_with_byte 32 (v ∷ ws)) t.0 refl ∙ ap (λ (parts : List Text). w ∷ parts) (joined v ws t.1)
+    part_before is_space w 32 (join_with_byte 32 (v ∷ ws)) t.0 refl
+    ∙ ap (λ (parts : List Text). w ∷ parts) (joined v ws t.1)

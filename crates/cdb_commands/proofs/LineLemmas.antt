@@ -19,5 +19,6 @@ no_tile line.Versions id file h e = cc
 no_tile line.Quit id file h e = cc
 no_tile line.Blank id file h e = cc
 
-pub not_a_tile : (l : Line) (id : ℕ) (file : Text) (o : Option Sentence) → HasNoName l → Some (sentence_in l) ≡ o → o ≡ Some (tile id file) → ⊥
+pub not_a_tile : (l : Line) (id : ℕ) (file : Text) (o : Option Sentence) → HasNoName l → Some (sentence_in l) ≡ o
+    → o ≡ Some (tile id file) → ⊥
 not_a_tile l id file o h e f = let s : sentence_in l ≡ tile id file = cc in no_tile l id file h s

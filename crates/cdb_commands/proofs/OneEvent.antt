@@ -39,23 +39,30 @@ IsEvent files said.overlong e = e ≡ machine.overlong
 
 is_event : (files : FileMap) (command : Command) (e : Event) → Means (has files) e command → IsEvent files command e
 is_event files command (machine.inline_line w) m = subst (λ c. IsEvent files c (machine.inline_line w)) (sym m) refl
-is_event files command (machine.source_line w content) m = subst (λ c. IsEvent files c (machine.source_line w content)) (sym m.0) (ap (machine.source_line w) (sym m.1))
+is_event files command (machine.source_line w content) m = subst (λ c. IsEvent files c (machine.source_line w content))
+    (sym m.0) (ap (machine.source_line w) (sym m.1))
 is_event files command machine.publish_line m = subst (λ c. IsEvent files c machine.publish_line) (sym m) refl
 is_event files command (machine.step_line n) m = subst (λ c. IsEvent files c (machine.step_line n)) (sym m) refl
 is_event files command machine.step_all_line m = subst (λ c. IsEvent files c machine.step_all_line) (sym m) refl
 is_event files command machine.open_line m = subst (λ c. IsEvent files c machine.open_line) (sym m) refl
-is_event files command (machine.tile_line id t) m = subst (λ c. IsEvent files c (machine.tile_line id t)) (sym m) (inl (t, (refl, refl)))
+is_event files command (machine.tile_line id t) m = subst (λ c. IsEvent files c (machine.tile_line id t)) (sym m)
+    (inl (t, (refl, refl)))
 is_event files command (machine.close_line id) m = subst (λ c. IsEvent files c (machine.close_line id)) (sym m) refl
 is_event files command machine.versions_line m = subst (λ c. IsEvent files c machine.versions_line) (sym m) refl
 is_event files command machine.overlong m = subst (λ c. IsEvent files c machine.overlong) (sym m) refl
 is_event files command machine.unreadable m = subst (λ c. IsEvent files c machine.unreadable) (sym m) refl
-is_event files command (machine.misnamed place) m = subst (λ c. IsEvent files c (machine.misnamed place)) (sym m.says) (inr (place, (refl, m.wrong)))
+is_event files command (machine.misnamed place) m = subst (λ c. IsEvent files c (machine.misnamed place)) (sym m.says)
+    (inr (place, (refl, m.wrong)))
 
 one_request : (id : ℕ) (file : Text) (a b : Event) → IsRequest id file a → IsRequest id file b → a ≡ b
-one_request id file a b (inl p) (inl q) = p.1.0 ∙ ap (machine.tile_line id) (one_tile p.0 q.0 (sym p.1.1 ∙ q.1.1)) ∙ sym q.1.0
-one_request id file a b (inl p) (inr q) = absurd (none_in_name p.0 q.0 (subst (λ (x : Text). FirstWrong name_fields x q.0) p.1.1 q.1.1))
-one_request id file a b (inr p) (inl q) = absurd (none_in_name q.0 p.0 (subst (λ (x : Text). FirstWrong name_fields x p.0) q.1.1 p.1.1))
-one_request id file a b (inr p) (inr q) = p.1.0 ∙ ap machine.misnamed (one_wrong_in_name file p.0 q.0 p.1.1 q.1.1) ∙ sym q.1.0
+one_request id file a b (inl p) (inl q) = p.1.0 ∙ ap (machine.tile_line id) (one_tile p.0 q.0 (sym p.1.1 ∙ q.1.1))
+    ∙ sym q.1.0
+one_request id file a b (inl p) (inr q) =
+    absurd (none_in_name p.0 q.0 (subst (λ (x : Text). FirstWrong name_fields x q.0) p.1.1 q.1.1))
+one_request id file a b (inr p) (inl q) =
+    absurd (none_in_name q.0 p.0 (subst (λ (x : Text). FirstWrong name_fields x p.0) q.1.1 p.1.1))
+one_request id file a b (inr p) (inr q) = p.1.0 ∙ ap machine.misnamed (one_wrong_in_name file p.0 q.0 p.1.1 q.1.1)
+    ∙ sym q.1.0
 
 same : (files : FileMap) (command : Command) (a b : Event) → IsEvent files command a → IsEvent files command b → a ≡ b
 same files (said.said (grammar.inline w)) a b p q = p ∙ sym q

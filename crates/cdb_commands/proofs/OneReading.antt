@@ -22,8 +22,10 @@ same_file : (id k : ℕ) (file other : Text) → tile id file ≡ tile k other �
 same_file id k file other e = cc
 
 -- a line whose file name is wrong at a place isn't read as a line
-not_read : (l : Line) (id : ℕ) (file : Text) (place : ℕ) → sentence_in l ≡ tile id file → FirstWrong name_fields file place → ⊥
-not_read (line.Tile n t) id file place e w = none_in_name t place (subst (λ (x : Text). FirstWrong name_fields x place) (sym (same_file n id (name t) file e)) w)
+not_read : (l : Line) (id : ℕ) (file : Text) (place : ℕ) → sentence_in l ≡ tile id file
+    → FirstWrong name_fields file place → ⊥
+not_read (line.Tile n t) id file place e w =
+    none_in_name t place (subst (λ (x : Text). FirstWrong name_fields x place) (sym (same_file n id (name t) file e)) w)
 not_read (line.Inline w) id file place e x = no_tile (line.Inline w) id file tt e
 not_read (line.Source w) id file place e x = no_tile (line.Source w) id file tt e
 not_read line.Publish id file place e x = no_tile line.Publish id file tt e
@@ -38,15 +40,19 @@ not_read line.Blank id file place e x = no_tile line.Blank id file tt e
 -- a line misnames a tile at one place
 pub one_misnaming : (line : Text) (p q : ℕ) → IsMisnamed line p → IsMisnamed line q → p ≡ q
 one_misnaming line p q a b =
-    let file = same_file a.id b.id a.file b.file (same_sentence (line_of line) (tile a.id a.file) (tile b.id b.file) a.says b.says) in
+    let file =
+    same_file a.id b.id a.file b.file (same_sentence (line_of line) (tile a.id a.file) (tile b.id b.file)
+    a.says b.says) in
     one_wrong_in_name a.file p q a.wrong (subst (λ (x : Text). FirstWrong name_fields x q) (sym file) b.wrong)
 
 pub one_reading : OneReading
 one_reading line (Ok a) (Ok b) p q = same_sentence (line_of line) (sentence_in a) (sentence_in b) p q
 one_reading line (Ok a) (Err Syntax) p q = some_none (line_of line) (sentence_in a) p q
-one_reading line (Ok a) (Err (Name place)) p q = not_read a q.id q.file place (same_sentence (line_of line) (sentence_in a) (tile q.id q.file) p q.says) q.wrong
+one_reading line (Ok a) (Err (Name place)) p q =
+    not_read a q.id q.file place (same_sentence (line_of line) (sentence_in a) (tile q.id q.file) p q.says) q.wrong
 one_reading line (Err Syntax) (Ok b) p q = some_none (line_of line) (sentence_in b) q p
-one_reading line (Err (Name place)) (Ok b) p q = not_read b p.id p.file place (same_sentence (line_of line) (sentence_in b) (tile p.id p.file) q p.says) p.wrong
+one_reading line (Err (Name place)) (Ok b) p q =
+    not_read b p.id p.file place (same_sentence (line_of line) (sentence_in b) (tile p.id p.file) q p.says) p.wrong
 one_reading line (Err Syntax) (Err Syntax) p q = refl
 one_reading line (Err Syntax) (Err (Name place)) p q = absurd (some_none (line_of line) (tile q.id q.file) q.says p)
 one_reading line (Err (Name place)) (Err Syntax) p q = absurd (some_none (line_of line) (tile p.id p.file) p.says q)

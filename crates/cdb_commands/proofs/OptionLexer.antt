@@ -20,7 +20,8 @@ has_inside : (text : Text) → nat_lt (position_or_len is_equals text) (length t
 has_inside [] = refl
 has_inside (c ∷ text) = by (is_equals c) (has_inside text)
   where
-    by : (b : Bool) → nat_lt (position_or_len is_equals text) (length text) ≡ has_byte 61 text → nat_lt (cond (not b) (1 + position_or_len is_equals text) 0) (length (c ∷ text)) ≡ (b || has_byte 61 text)
+    by : (b : Bool) → nat_lt (position_or_len is_equals text) (length text) ≡ has_byte 61 text
+        → nat_lt (cond (not b) (1 + position_or_len is_equals text) 0) (length (c ∷ text)) ≡ (b || has_byte 61 text)
     by true e = grind (arith, nat_tests)
     by false e = one_further (position_or_len is_equals text) (length text) ∙ e
 
@@ -28,7 +29,11 @@ abbrev split : Text → Text × Option Text
 split text = (take (position_or_len is_equals text) text, behind_equals text)
 
 split_is : (text : Text) → split text ≡ clap_name_and_value text
-split_is text = ap (λ (b : Bool). let p : Text × Option Text = (take (position_or_len is_equals text) text, cond b (Some (drop (position_or_len is_equals text + 1) text)) None) in p) (has_inside text)
+split_is text =
+    ap (λ (b : Bool). let p : Text
+    × Option Text =
+    (take (position_or_len is_equals text) text, cond b (Some (drop (position_or_len is_equals text + 1) text)) None) in
+    p) (has_inside text)
 
 pub word_is : (word : Text) → name_and_value word ≡ long_of word
 word_is [] = refl
@@ -43,16 +48,19 @@ word_is (a ∷ b ∷ []) = by (a == 45)
     second true = refl
     second false = refl
 
-    by : (x : Bool) → None ≡ option_and_then long_of_rest (option_and_then (strip_byte 45) (cond x (Some (b ∷ [])) None))
+    by : (x : Bool)
+        → None ≡ option_and_then long_of_rest (option_and_then (strip_byte 45) (cond x (Some (b ∷ [])) None))
     by true = second (b == 45)
     by false = refl
 word_is (a ∷ b ∷ c ∷ rest) = by (a == 45)
   where
-    second : (y : Bool) → option_map split (cond y (Some (c ∷ rest)) None) ≡ option_and_then long_of_rest (cond y (Some (c ∷ rest)) None)
+    second : (y : Bool) → option_map split (cond y (Some (c ∷ rest)) None)
+        ≡ option_and_then long_of_rest (cond y (Some (c ∷ rest)) None)
     second true = ap Some (split_is (c ∷ rest))
     second false = refl
 
-    by : (x : Bool) → option_map split (cond (x && (b == 45)) (Some (c ∷ rest)) None) ≡ option_and_then long_of_rest (option_and_then (strip_byte 45) (cond x (Some (b ∷ c ∷ rest)) None))
+    by : (x : Bool) → option_map split (cond (x && (b == 45)) (Some (c ∷ rest)) None)
+        ≡ option_and_then long_of_rest (option_and_then (strip_byte 45) (cond x (Some (b ∷ c ∷ rest)) None))
     by true = second (b == 45)
     by false = refl
 
@@ -69,6 +77,7 @@ no_short (a ∷ b ∷ rest) e = by (a == 45) e
     second true e = refl
     second false e = absurd cc
 
-    by : (x : Bool) → (x && not (b == 45)) ≡ false → option_and_then short_of_rest (cond x (Some (b ∷ rest)) None) ≡ None
+    by : (x : Bool) → (x && not (b == 45)) ≡ false
+        → option_and_then short_of_rest (cond x (Some (b ∷ rest)) None) ≡ None
     by true e = second (b == 45) e
     by false e = refl

@@ -1,4 +1,5 @@
--- The command of the four options as `clap` builds it: its rules, the rows of their uses, and the end of a walk over words.
+-- The command of the four options as `clap` builds it: its rules, the rows of their uses, and the end of a walk over
+-- words.
 use Rattle.std.proofs.Common.{◌≡◌, ◌∙◌, ◌++◌, ◌&&◌, ◌||◌, Bool, cond, codes, true, false, not, refl, sym, ap, ap₂, subst, List, [], ◌∷◌, map, Option, Some, None, is_some, ◌⊎◌, inl, inr}
 use Rattle.std.specs.Prelude.{slice_get, find, fold, option_and_then, option_map, nat_lt}
 use Rattle.std.specs.List.{list_all, list_any}
@@ -58,22 +59,27 @@ same_text a b h = (bytes_eq-Decides a b).0 h
 pub long_is : (n name : Text) → has_long (rule n) name ≡ bytes_eq n name
 long_is n name = elim (bytes_eq n name) as (λ b. b || false ≡ b) [ true ↦ refl | false ↦ refl ]
 
-pub found_long : (ns : List Text) (name : Text) → arg_by_long (map rule ns) name ≡ cond (list_any (λ n. bytes_eq n name) ns) (Some (rule name)) None
+pub found_long : (ns : List Text) (name : Text) → arg_by_long (map rule ns) name
+    ≡ cond (list_any (λ n. bytes_eq n name) ns) (Some (rule name)) None
 found_long [] name = refl
 found_long (n ∷ ns) name =
-    ap (λ b. cond b (Some (rule n)) (arg_by_long (map rule ns) name)) (long_is n name) ∙ go (found_long ns name) (bytes_eq n name) refl
+    ap (λ b. cond b (Some (rule n)) (arg_by_long (map rule ns) name)) (long_is n name)
+    ∙ go (found_long ns name) (bytes_eq n name) refl
   where
     go : arg_by_long (map rule ns) name ≡ cond (list_any (λ n. bytes_eq n name) ns) (Some (rule name)) None
-        → (b : Bool) → bytes_eq n name ≡ b → cond b (Some (rule n)) (arg_by_long (map rule ns) name) ≡ cond (b || list_any (λ n. bytes_eq n name) ns) (Some (rule name)) None
+        → (b : Bool) → bytes_eq n name ≡ b → cond b (Some (rule n)) (arg_by_long (map rule ns) name)
+        ≡ cond (b || list_any (λ n. bytes_eq n name) ns) (Some (rule name)) None
     go rest true e = ap (λ t. Some (rule t)) (same_text n name e)
     go rest false e = rest
 
-pub found_id : (ns : List Text) (name : Text) → arg_by_id (map rule ns) name ≡ cond (list_any (λ n. bytes_eq n name) ns) (Some (rule name)) None
+pub found_id : (ns : List Text) (name : Text) → arg_by_id (map rule ns) name ≡ cond (list_any (λ n. bytes_eq n name) ns)
+    (Some (rule name)) None
 found_id [] name = refl
 found_id (n ∷ ns) name = go (found_id ns name) (bytes_eq n name) refl
   where
     go : arg_by_id (map rule ns) name ≡ cond (list_any (λ n. bytes_eq n name) ns) (Some (rule name)) None
-        → (b : Bool) → bytes_eq n name ≡ b → cond b (Some (rule n)) (arg_by_id (map rule ns) name) ≡ cond (b || list_any (λ n. bytes_eq n name) ns) (Some (rule name)) None
+        → (b : Bool) → bytes_eq n name ≡ b → cond b (Some (rule n)) (arg_by_id (map rule ns) name)
+        ≡ cond (b || list_any (λ n. bytes_eq n name) ns) (Some (rule name)) None
     go rest true e = ap (λ t. Some (rule t)) (same_text n name e)
     go rest false e = rest
 
@@ -103,16 +109,20 @@ pub absent : (name : Text) (change : Row → List Row) (missing : List Row) (use
 absent name change missing [] h = refl
 absent name change missing (u ∷ uses) h = go (absent name change missing uses) (bytes_eq u.0 name) refl
   where
-    go : (is_given name uses ≡ false → at_row name change missing (map row uses) ≡ map row uses ++ missing) → (b : Bool) → bytes_eq u.0 name ≡ b
-        → cond b (change (row u) ++ map row uses) (row u ∷ at_row name change missing (map row uses)) ≡ row u ∷ (map row uses ++ missing)
+    go : (is_given name uses ≡ false → at_row name change missing (map row uses) ≡ map row uses ++ missing) → (b : Bool)
+        → bytes_eq u.0 name ≡ b
+        → cond b (change (row u) ++ map row uses) (row u ∷ at_row name change missing (map row uses))
+        ≡ row u ∷ (map row uses ++ missing)
     go rest true e = let bad : true ≡ false = sym (ap (λ b. b || is_given name uses) e) ∙ h in cc
     go rest false e = ap (λ rs. row u ∷ rs) (rest (sym (ap (λ b. b || is_given name uses) e) ∙ h))
 
 pub used_once : (name value : Text) (uses : List Use) → is_given name uses ≡ false
     → used (rule name) (value ∷ []) (map row uses) ≡ map row (uses ++ (name, value) ∷ [])
 used_once name value uses h =
-    ap (λ rs. with_values name (reading_by (rule name)) CommandLine (value ∷ []) rs) (absent name (λ _. []) [] uses h ∙ append-nil (map row uses))
-    ∙ absent name (more_values CommandLine (value ∷ [])) (row (name, value) ∷ []) uses h ∙ sym (map-append row uses ((name, value) ∷ []))
+    ap (λ rs. with_values name (reading_by (rule name)) CommandLine (value ∷ []) rs)
+    (absent name (λ _. []) [] uses h ∙ append-nil (map row uses))
+    ∙ absent name (more_values CommandLine (value ∷ [])) (row (name, value) ∷ []) uses h
+    ∙ sym (map-append row uses ((name, value) ∷ []))
 
 -- ---- the end of a walk
 
@@ -124,7 +134,9 @@ all_finished [] rows = refl
 all_finished (n ∷ ns) rows = ap (λ rs. fold with_default rs (map rule ns)) (no_default rows n) ∙ all_finished ns rows
 
 pub no_default_fault : (rows : List Row) (name : Text) → default_fault rows (rule name) ≡ []
-no_default_fault rows name = elim (has_row name rows) as (λ b. cond (b || true) [] (given_default_fault (rule name) []) ≡ []) [ true ↦ refl | false ↦ refl ]
+no_default_fault rows name =
+    elim (has_row name rows) as (λ b. cond (b || true) [] (given_default_fault (rule name) []) ≡ [])
+    [ true ↦ refl | false ↦ refl ]
 
 pub no_defaults_fault : (ns : List Text) (rows : List Row) → defaults_fault rows (map rule ns) ≡ []
 unfolding defaults_fault

@@ -37,18 +37,23 @@ all_kinds w words = or_else (walk_fault shape [] w words) (end_kinds (fold (walk
 -- refused where the words spell no uses, and else the rows of these uses
 abbrev Agrees : Walk → List Text → Option (List Use) → Type 0
 Agrees w words None = IsFault (all_kinds w words)
-Agrees w words (Some uses) = (all_kinds w words ≡ []) × (finished rules (fold (walked rules []) w words).held ≡ map row uses)
+Agrees w words (Some uses) = (all_kinds w words ≡ [])
+    × (finished rules (fold (walked rules []) w words).held ≡ map row uses)
 
 end_quiet : (h : Held) (uses : List Use) → settle_fault rules false h ≡ [] → settled rules h ≡ held uses None
     → (end_kinds h ≡ []) × (finished rules h ≡ map row uses)
 end_quiet h uses quiet is = (
-  ap (λ k. or_else k (or_else (defaults_fault (settled rules h).rows rules) (check_fault shape (finished rules h) false))) quiet
-      ∙ ap (λ k. or_else k (check_fault shape (finished rules h) false)) (no_defaults_fault option_names (settled rules h).rows),
+  ap (λ k.
+      or_else k (or_else (defaults_fault (settled rules h).rows rules) (check_fault shape (finished rules h) false)))
+      quiet
+      ∙ ap (λ k. or_else k (check_fault shape (finished rules h) false))
+      (no_defaults_fault option_names (settled rules h).rows),
   ap (λ (k : Held). fold with_default k.rows rules) is ∙ all_finished option_names (map row uses),
 )
 
 end_refused : (h : Held) (k : ErrorKind) → settle_fault rules false h ≡ k ∷ [] → IsFault (end_kinds h)
-end_refused h k bad = fault_first (settle_fault rules false h) (or_else (defaults_fault (settled rules h).rows rules) (check_fault shape (finished rules h) false)) k bad
+end_refused h k bad = fault_first (settle_fault rules false h)
+    (or_else (defaults_fault (settled rules h).rows rules) (check_fault shape (finished rules h) false)) k bad
 
 agrees_end : (s : Standing) → Names s → Agrees (walk_of s) [] (uses_from s [])
 unfolding uses_of walk_fault
@@ -56,32 +61,41 @@ agrees_end (clear uses) n = end_quiet (held uses None) uses refl refl
 agrees_end (before uses name) n = end_refused (held uses (Some (name, []))) InvalidValue (settle_kinds uses name [] n)
 agrees_end (behind uses name text) n = go (is_given name uses) refl
   where
-    go : (b : Bool) → is_given name uses ≡ b → Agrees (walk_of (behind uses name text)) [] (uses_from (behind uses name text) [])
+    go : (b : Bool) → is_given name uses ≡ b
+        → Agrees (walk_of (behind uses name text)) [] (uses_from (behind uses name text) [])
     go true g =
-        let P : Option (List Use) → Type 0 = λ o. Agrees (walk_of (behind uses name text)) [] (option_and_then (λ more. uses_of None more []) o) in
+        let P : Option (List Use) → Type 0 = λ o. Agrees (walk_of (behind uses name text)) []
+        (option_and_then (λ more. uses_of None more []) o) in
         subst P (sym (no_second name text uses n g))
-        (end_refused (held uses (Some (name, text ∷ []))) ArgumentConflict (settle_kinds uses name (text ∷ []) n ∙ use_kinds name text uses true g))
+        (end_refused (held uses (Some (name, text ∷ []))) ArgumentConflict
+        (settle_kinds uses name (text ∷ []) n ∙ use_kinds name text uses true g))
     go false g =
-        let P : Option (List Use) → Type 0 = λ o. Agrees (walk_of (behind uses name text)) [] (option_and_then (λ more. uses_of None more []) o) in
+        let P : Option (List Use) → Type 0 = λ o. Agrees (walk_of (behind uses name text)) []
+        (option_and_then (λ more. uses_of None more []) o) in
         subst P (sym (one_more name text uses n g))
         (end_quiet (held uses (Some (name, text ∷ []))) (uses ++ (name, text) ∷ [])
         (settle_kinds uses name (text ∷ []) n ∙ use_kinds name text uses false g) (settled_is uses name text n g))
 
-onward : (w next : Walk) (word : Text) (rest : List Text) → turn_fault shape [] w word ≡ [] → walked rules [] w word ≡ next
+onward : (w next : Walk) (word : Text) (rest : List Text) → turn_fault shape [] w word ≡ []
+    → walked rules [] w word ≡ next
     → all_kinds w (word ∷ rest) ≡ all_kinds next rest
 unfolding walk_fault
 onward w next word rest none is =
-    ap₂ (λ k (v : Walk). or_else (or_else k (walk_fault shape [] v rest)) (end_kinds (fold (walked rules []) v rest).held)) none is
+    ap₂ (λ k (v : Walk). or_else (or_else k (walk_fault shape [] v rest))
+    (end_kinds (fold (walked rules []) v rest).held)) none is
 
-agrees_on : (w next : Walk) (word : Text) (rest : List Text) (o : Option (List Use)) → turn_fault shape [] w word ≡ [] → walked rules [] w word ≡ next
+agrees_on : (w next : Walk) (word : Text) (rest : List Text) (o : Option (List Use)) → turn_fault shape [] w word ≡ []
+    → walked rules [] w word ≡ next
     → Agrees next rest o → Agrees w (word ∷ rest) o
-agrees_on w next word rest None none is h = let P : Kinds → Type 0 = λ k. IsFault k in subst P (sym (onward w next word rest none is)) h
+agrees_on w next word rest None none is h = let P : Kinds → Type 0 = λ k. IsFault k in
+    subst P (sym (onward w next word rest none is)) h
 agrees_on w next word rest (Some uses) none is h = (
   onward w next word rest none is ∙ h.0,
   ap (λ (v : Walk). finished rules (fold (walked rules []) v rest).held) is ∙ h.1,
 )
 
-refused_now : (w : Walk) (word : Text) (rest : List Text) → IsFault (turn_fault shape [] w word) → IsFault (all_kinds w (word ∷ rest))
+refused_now : (w : Walk) (word : Text) (rest : List Text) → IsFault (turn_fault shape [] w word)
+    → IsFault (all_kinds w (word ∷ rest))
 unfolding walk_fault
 refused_now w word rest h =
     stays (or_else (turn_fault shape [] w word) (walk_fault shape [] (walked rules [] w word) rest))
@@ -96,21 +110,25 @@ agrees : (words : List Text) (s : Standing) → Names s → AllWords words → A
 agrees [] s n all = agrees_end s n
 agrees (word ∷ rest) s n all = go (agrees rest) (turns s word n all.0)
   where
-    go : ((t : Standing) → Names t → AllWords rest → Agrees (walk_of t) rest (uses_from t rest)) → Turns (walk_of s) (uses_from s) word
+    go : ((t : Standing) → Names t → AllWords rest → Agrees (walk_of t) rest (uses_from t rest))
+        → Turns (walk_of s) (uses_from s) word
         → Agrees (walk_of s) (word ∷ rest) (uses_from s (word ∷ rest))
     go later (inl h) =
         let P : Option (List Use) → Type 0 = λ o. Agrees (walk_of s) (word ∷ rest) o in
         subst P (sym (h.1 rest)) (refused_now (walk_of s) word rest h.0)
     go later (inr h) =
         let P : Option (List Use) → Type 0 = λ o. Agrees (walk_of s) (word ∷ rest) o in
-        subst P (sym (h.4 rest)) (agrees_on (walk_of s) (walk_of h.0) word rest (uses_from h.0 rest) h.2 h.3 (later h.0 h.1 all.1))
+        subst P (sym (h.4 rest))
+        (agrees_on (walk_of s) (walk_of h.0) word rest (uses_from h.0 rest) h.2 h.3 (later h.0 h.1 all.1))
 
 -- ---- the command
 
 kinds_are : (words : List Text) → fault_of options_app words ≡ all_kinds (walk_from nothing_held) words
-kinds_are words = ap (λ a. built_fault a nothing_held words) built_is ∙ by_stop (walk rules [] nothing_held words).stopped
+kinds_are words = ap (λ a. built_fault a nothing_held words) built_is
+    ∙ by_stop (walk rules [] nothing_held words).stopped
   where
-    by_stop : (stop : Option (Text × List Text)) → level_fault shape [] nothing_held words (is_some (entered app stop)) (entered_fault app stop)
+    by_stop : (stop : Option (Text × List Text)) → level_fault shape [] nothing_held words (is_some (entered app stop))
+        (entered_fault app stop)
         ≡ all_kinds (walk_from nothing_held) words
     by_stop None = refl
     by_stop (Some p) = refl
@@ -123,13 +141,15 @@ first_is name [] = refl
 first_is name (u ∷ uses) = go (first_is name uses) (bytes_eq u.0 name)
   where
     go : first_of name (map row uses) ≡ given_text name uses → (b : Bool)
-        → option_and_then (λ (r : Row). slice_get r.values 0) (cond b (Some (row u)) (find (λ (r : Row). bytes_eq r.id name) (map row uses)))
+        → option_and_then (λ (r : Row). slice_get r.values 0)
+        (cond b (Some (row u)) (find (λ (r : Row). bytes_eq r.id name) (map row uses)))
         ≡ option_map (λ (v : Use). v.1) (cond b (Some u) (find (λ (v : Use). bytes_eq v.0 name) uses))
     go rest true = refl
     go rest false = rest
 
 -- where the words spell no uses, the parse fails by its words
-pub refused_words : (words : List Text) → AllWords words → uses_of None [] words ≡ None → fault_of options_app words ≡ [] → ⊥
+pub refused_words : (words : List Text) → AllWords words → uses_of None [] words ≡ None
+    → fault_of options_app words ≡ [] → ⊥
 refused_words words all none quiet =
     let P : Option (List Use) → Type 0 = λ o. Agrees (walk_from nothing_held) words o in
     let bad : IsFault (all_kinds (walk_from nothing_held) words) = subst P none (agrees words (clear []) tt all) in
@@ -138,7 +158,8 @@ refused_words words all none quiet =
 
 -- where they spell uses, it fails for want of memory alone, and has their texts
 pub taken_words : (words : List Text) (uses : List Use) → AllWords words → uses_of None [] words ≡ Some uses
-    → (fault_of options_app words ≡ []) × ((name : Text) → first_of name (matches_of options_app words) ≡ given_text name uses)
+    → (fault_of options_app words ≡ [])
+    × ((name : Text) → first_of name (matches_of options_app words) ≡ given_text name uses)
 taken_words words uses all some =
     let P : Option (List Use) → Type 0 = λ o. Agrees (walk_from nothing_held) words o in
     let good : Agrees (walk_from nothing_held) words (Some uses) = subst P some (agrees words (clear []) tt all) in (
@@ -148,15 +169,18 @@ taken_words words uses all some =
 
 -- the two cases, from what the parse says
 pub spelled_where_taken : (words : List Text) → AllWords words → fault_of options_app words ≡ []
-    → (uses : List Use) × (uses_of None [] words ≡ Some uses) × ((name : Text) → first_of name (matches_of options_app words) ≡ given_text name uses)
+    → (uses : List Use) × (uses_of None [] words ≡ Some uses)
+    × ((name : Text) → first_of name (matches_of options_app words) ≡ given_text name uses)
 spelled_where_taken words all quiet = go (uses_of None [] words) refl
   where
     go : (o : Option (List Use)) → uses_of None [] words ≡ o
-        → (uses : List Use) × (uses_of None [] words ≡ Some uses) × ((name : Text) → first_of name (matches_of options_app words) ≡ given_text name uses)
+        → (uses : List Use) × (uses_of None [] words ≡ Some uses)
+        × ((name : Text) → first_of name (matches_of options_app words) ≡ given_text name uses)
     go None e = absurd (refused_words words all e quiet)
     go (Some uses) e = (uses, e, (taken_words words uses all e).1)
 
-pub none_where_refused : (words : List Text) → AllWords words → (fault_of options_app words ≡ [] → ⊥) → uses_of None [] words ≡ None
+pub none_where_refused : (words : List Text) → AllWords words → (fault_of options_app words ≡ [] → ⊥)
+    → uses_of None [] words ≡ None
 none_where_refused words all loud = go (uses_of None [] words) refl
   where
     go : (o : Option (List Use)) → uses_of None [] words ≡ o → uses_of None [] words ≡ None
@@ -179,7 +203,8 @@ all_words_of (word ∷ rest) h =
     let q = both_not (bytes_eq word (45 ∷ 45 ∷ [])) (is_short word) p.0 in
     (record { goes_on = q.0; no_short = no_short word q.1 }, all_words_of rest p.1)
 
-pub spelled_by : (words : List Text) (g : Given) → list_all is_word words ≡ true → IsGiven words g → SpellsOptions words g
+pub spelled_by : (words : List Text) (g : Given) → list_all is_word words ≡ true → IsGiven words g
+    → SpellsOptions words g
 spelled_by words g all k =
     let s = spelled_where_taken words (all_words_of words all) k.taken in (
       s.0,
@@ -192,5 +217,7 @@ spelled_by words g all k =
       },
     )
 
-pub none_by : (words : List Text) → list_all is_word words ≡ true → (fault_of options_app words ≡ [] → ⊥) → options_spelled words ≡ None
-none_by words all loud = ap (λ b. cond b (uses_of None [] words) None) all ∙ none_where_refused words (all_words_of words all) loud
+pub none_by : (words : List Text) → list_all is_word words ≡ true → (fault_of options_app words ≡ [] → ⊥)
+    → options_spelled words ≡ None
+none_by words all loud = ap (λ b. cond b (uses_of None [] words) None) all
+    ∙ none_where_refused words (all_words_of words all) loud

@@ -17,24 +17,34 @@ abbrev pub all_in : Option Text → Bool
 all_in None = true
 all_in (Some text) = list_all is_part (slice_split is_slash text)
 
-pub first_of_parts : (text part : Text) (rest : Option Text) → part ≡ take (position_or_len is_slash text) text → rest ≡ after_slash text → list_all is_part (slice_split is_slash text) ≡ (is_part part && all_in rest)
+pub first_of_parts : (text part : Text) (rest : Option Text) → part ≡ take (position_or_len is_slash text) text
+    → rest ≡ after_slash text → list_all is_part (slice_split is_slash text) ≡ (is_part part && all_in rest)
 first_of_parts text part rest p r = by (nat_lt (position_or_len is_slash text) (length text)) refl r
   where
-    by : (b : Bool) → nat_lt (position_or_len is_slash text) (length text) ≡ b → rest ≡ (if b then Some (drop (position_or_len is_slash text + 1) text) else None) → list_all is_part (slice_split is_slash text) ≡ (is_part part && all_in rest)
+    by : (b : Bool) → nat_lt (position_or_len is_slash text) (length text) ≡ b
+        → rest ≡ (if b then Some (drop (position_or_len is_slash text + 1) text) else None)
+        → list_all is_part (slice_split is_slash text) ≡ (is_part part && all_in rest)
     by true t e =
-        let cut = first_part is_slash text (position_or_len is_slash text) refl (ltb-true (position_or_len is_slash text) (length text) t) in
-        ap (list_all is_part) cut ∙ sym (ap (λ (x : Text). is_part x && all_in rest) p ∙ ap (λ (o : Option Text). is_part (take (position_or_len is_slash text) text) && all_in o) e)
+        let cut = first_part is_slash text (position_or_len is_slash text) refl
+        (ltb-true (position_or_len is_slash text) (length text) t) in
+        ap (list_all is_part) cut
+        ∙ sym (ap (λ (x : Text). is_part x && all_in rest) p
+        ∙ ap (λ (o : Option Text). is_part (take (position_or_len is_slash text) text) && all_in o) e)
     by false t e =
-        let most : length text ≤ position_or_len is_slash text = ltb-false (position_or_len is_slash text) (length text) t in
+        let most : length text ≤ position_or_len is_slash text = ltb-false (position_or_len is_slash text)
+        (length text) t in
         let whole : part ≡ text = p ∙ take_all (position_or_len is_slash text) text most in
-        ap (list_all is_part) (only_part is_slash text most) ∙ sym (ap (λ (x : Text). is_part x && all_in rest) whole ∙ ap (λ (o : Option Text). is_part text && all_in o) e)
+        ap (list_all is_part) (only_part is_slash text most)
+        ∙ sym (ap (λ (x : Text). is_part x && all_in rest) whole
+        ∙ ap (λ (o : Option Text). is_part text && all_in o) e)
 
 pub ruleset parts = (first_of_parts)
 
 abbrev pub is_byte_of_path : ℕ → Bool
 is_byte_of_path c = is_slash c || is_path_byte c
 
-onto : (c : ℕ) (ps : List Text) → list_all (λ p. list_all is_path_byte p) (onto_first c ps) ≡ true → (is_path_byte c ≡ true) × (list_all (λ p. list_all is_path_byte p) ps ≡ true)
+onto : (c : ℕ) (ps : List Text) → list_all (λ p. list_all is_path_byte p) (onto_first c ps) ≡ true
+    → (is_path_byte c ≡ true) × (list_all (λ p. list_all is_path_byte p) ps ≡ true)
 onto c [] h = let t = both (is_path_byte c && true) true h in ((both (is_path_byte c) true t.0).0, refl)
 onto c (p ∷ ps) h =
     let t = both (is_path_byte c && list_all is_path_byte p) (list_all (λ p. list_all is_path_byte p) ps) h in
@@ -42,11 +52,16 @@ onto c (p ∷ ps) h =
     let v : (list_all is_path_byte p && list_all (λ p. list_all is_path_byte p) ps) ≡ true = rw u.1 t.1 in
     (u.0, v)
 
-plain : (w : Text) → list_all (λ p. list_all is_path_byte p) (slice_split is_slash w) ≡ true → list_all is_byte_of_path w ≡ true
+plain : (w : Text) → list_all (λ p. list_all is_path_byte p) (slice_split is_slash w) ≡ true
+    → list_all is_byte_of_path w ≡ true
 plain [] h = refl
 plain (c ∷ w) h = by (plain w) (is_slash c) refl h
   where
-    by : (list_all (λ p. list_all is_path_byte p) (slice_split is_slash w) ≡ true → list_all is_byte_of_path w ≡ true) → (b : Bool) → is_slash c ≡ b → list_all (λ p. list_all is_path_byte p) (cond b ([] ∷ slice_split is_slash w) (onto_first c (slice_split is_slash w))) ≡ true → list_all is_byte_of_path (c ∷ w) ≡ true
+    by : (list_all (λ p. list_all is_path_byte p) (slice_split is_slash w) ≡ true → list_all is_byte_of_path w ≡ true)
+        → (b : Bool) → is_slash c ≡ b
+        → list_all (λ p. list_all is_path_byte p)
+        (cond b ([] ∷ slice_split is_slash w) (onto_first c (slice_split is_slash w))) ≡ true
+        → list_all is_byte_of_path (c ∷ w) ≡ true
     by rest true s h = rw s (rest h)
     by rest false s h = let t = onto c (slice_split is_slash w) h in rw (s, t.0) (rest t.1)
 

@@ -15,24 +15,31 @@ with_front items o = option_map (λ xs. items ++ xs) o
 
 pub word_is : (ws rest : List Text) (w : Text) → Some (w, rest) ≡ first_word ws → ws ≡ w ∷ rest
 word_is [] rest w e = absurd cc
-word_is (v ∷ vs) rest w e = let p : ◌≡◌ {A = Text × List Text} (w, rest) (v, vs) = cc in ap (λ (q : Text × List Text). q.0 ∷ q.1) (sym p)
+word_is (v ∷ vs) rest w e = let p : ◌≡◌ {A = Text × List Text} (w, rest) (v, vs) = cc in
+    ap (λ (q : Text × List Text). q.0 ∷ q.1) (sym p)
 
 pub no_word : (ws : List Text) → None ≡ first_word ws → ws ≡ []
 no_word [] e = refl
 no_word (v ∷ vs) e = absurd cc
 
-regroup : (items : List ℤ) (x : ℤ) (o : Option (List ℤ)) → with_front items (option_map (λ xs. x ∷ xs) o) ≡ with_front (items ++ x ∷ []) o
+regroup : (items : List ℤ) (x : ℤ) (o : Option (List ℤ)) → with_front items (option_map (λ xs. x ∷ xs) o)
+    ≡ with_front (items ++ x ∷ []) o
 regroup items x None = refl
 regroup items x (Some xs) = ap Some (sym (append_assoc items (x ∷ []) xs))
 
-pub goes_on : (items : List ℤ) (total : Option (List ℤ)) (ws rest : List Text) (w : Text) (x : ℤ) → ws ≡ w ∷ rest → Some x ≡ signed 6 w → total ≡ with_front items (read_all ws) → total ≡ with_front (items ++ x ∷ []) (read_all rest)
+pub goes_on : (items : List ℤ) (total : Option (List ℤ)) (ws rest : List Text) (w : Text) (x : ℤ) → ws ≡ w ∷ rest
+    → Some x ≡ signed 6 w → total ≡ with_front items (read_all ws)
+    → total ≡ with_front (items ++ x ∷ []) (read_all rest)
 goes_on items total ws rest w x is read e =
-    let one : read_all (w ∷ rest) ≡ option_map (λ xs. x ∷ xs) (read_all rest) = ap (option_and_then (λ x. option_map (λ xs. x ∷ xs) (read_all rest))) (sym read) in
+    let one : read_all (w ∷ rest) ≡ option_map (λ xs. x ∷ xs) (read_all rest) =
+    ap (option_and_then (λ x. option_map (λ xs. x ∷ xs) (read_all rest))) (sym read) in
     e ∙ ap (with_front items) (ap read_all is ∙ one) ∙ regroup items x (read_all rest)
 
-pub bad_word : (items : List ℤ) (total : Option (List ℤ)) (ws rest : List Text) (w : Text) → ws ≡ w ∷ rest → None ≡ signed 6 w → total ≡ with_front items (read_all ws) → total ≡ None
+pub bad_word : (items : List ℤ) (total : Option (List ℤ)) (ws rest : List Text) (w : Text) → ws ≡ w ∷ rest
+    → None ≡ signed 6 w → total ≡ with_front items (read_all ws) → total ≡ None
 bad_word items total ws rest w is read e =
-    let one : read_all (w ∷ rest) ≡ None = ap (option_and_then (λ x. option_map (λ xs. x ∷ xs) (read_all rest))) (sym read) in
+    let one : read_all (w ∷ rest) ≡ None =
+    ap (option_and_then (λ x. option_map (λ xs. x ∷ xs) (read_all rest))) (sym read) in
     e ∙ ap (with_front items) (ap read_all is ∙ one)
 
 either : {A : Type 0} (b : Bool) → cond {A = Option A} b None None ≡ None
@@ -54,7 +61,8 @@ pub posts_empty : (ws : List Text) → length ws ≡ 0 → posts ws ≡ None
 unfolding posts
 posts_empty ws h = rw h refl
 
-pub posts_done : (ws : List Text) (items : List ℤ) → read_all ws ≡ Some items → 0 < length ws → length ws ≤ 64 → Some items ≡ posts ws
+pub posts_done : (ws : List Text) (items : List ℤ) → read_all ws ≡ Some items → 0 < length ws → length ws ≤ 64
+    → Some items ≡ posts ws
 unfolding posts
 posts_done ws items e some few =
     let a : nat_lt 0 (length ws) ≡ true = lt-ltb 0 (length ws) some in

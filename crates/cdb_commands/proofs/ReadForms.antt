@@ -20,11 +20,13 @@ use Rattle.cdb_commands.proofs.JoinedWords.{both}
 pub some_is : {X : Type 0} (x y : X) → Some x ≡ Some y → x ≡ y
 some_is x y e = cc
 
-pub then_some : {X Y : Type 0} (o : Option X) (f : X → Option Y) (y : Y) → option_and_then f o ≡ Some y → (x : X) × (o ≡ Some x) × (f x ≡ Some y)
+pub then_some : {X Y : Type 0} (o : Option X) (f : X → Option Y) (y : Y) → option_and_then f o ≡ Some y → (x : X)
+    × (o ≡ Some x) × (f x ≡ Some y)
 then_some None f y e = absurd cc
 then_some (Some x) f y e = (x, refl, e)
 
-pub map_some : {X Y : Type 0} (o : Option X) (f : X → Y) (y : Y) → option_map f o ≡ Some y → (x : X) × (o ≡ Some x) × (f x ≡ y)
+pub map_some : {X Y : Type 0} (o : Option X) (f : X → Y) (y : Y) → option_map f o ≡ Some y → (x : X)
+    × (o ≡ Some x) × (f x ≡ y)
 map_some None f y e = absurd cc
 map_some (Some x) f y e = (x, refl, some_is (f x) y e)
 
@@ -54,7 +56,8 @@ unfolding signed
 signed_form most [] z e = absurd cc
 signed_form most (c ∷ w) z e = by (c == 45) e
   where
-    by : (b : Bool) → cond b (option_map (λ n. neg_ℤ (pos n)) (digits most w)) (option_map (λ n. pos n) (digits most (c ∷ w))) ≡ Some z → HasDigits most z
+    by : (b : Bool) → cond b (option_map (λ n. neg_ℤ (pos n)) (digits most w))
+        (option_map (λ n. pos n) (digits most (c ∷ w))) ≡ Some z → HasDigits most z
     by true e =
         let t = map_some (digits most w) (λ n. neg_ℤ (pos n)) z e in
         subst (HasDigits most) t.2 (subst (λ (n : ℕ). n < 10 ^ most) (sym (abs_neg t.0)) (digits_form most w t.0 t.1))
@@ -65,23 +68,31 @@ signed_form most (c ∷ w) z e = by (c == 45) e
 fraction_of_form : (top : Text) (o : Option Text) (f : Fraction) → fraction_of top o ≡ Some f → IsWritableFraction f
 fraction_of_form top None f e =
     let t = map_some (signed 18 top) (λ n. let f : Fraction = record { n = n; d = pos 1 } in f) f e in
-    subst IsWritableFraction t.2 (record { top = signed_form 18 top t.0 t.1; bottom = lit< tt; no_minus = omega (arith, ints) })
+    subst IsWritableFraction
+    t.2 (record { top = signed_form 18 top t.0 t.1; bottom = lit< tt; no_minus = omega (arith, ints) })
 fraction_of_form top (Some bottom) f e =
     let t = then_some (signed 18 top) _ f e in
     let u = then_some (digits 18 bottom) _ f t.2 in
-    subst IsWritableFraction (some_is _ f u.2) (record { top = signed_form 18 top t.0 t.1; bottom = digits_form 18 bottom u.0 u.1; no_minus = omega (arith, ints) })
+    subst IsWritableFraction (some_is _ f u.2)
+    (record {
+      top = signed_form 18 top t.0 t.1;
+      bottom = digits_form 18 bottom u.0 u.1;
+      no_minus = omega (arith, ints);
+    })
 
 pub fraction_form : (w : Text) (f : Fraction) → fraction w ≡ Some f → IsWritableFraction f
 unfolding fraction
 fraction_form w f e = fraction_of_form (take (position_or_len is_slash w) w) (after_slash w) f e
 
-field_form : {X : Type 0} (read : Text → Option X) (P : X → Type 0) → ((w : Text) (x : X) → read w ≡ Some x → P x) → (ws : List Text) (p : X × List Text) → first_field read ws ≡ Some p → P p.0
+field_form : {X : Type 0} (read : Text → Option X) (P : X → Type 0) → ((w : Text) (x : X) → read w ≡ Some x → P x)
+    → (ws : List Text) (p : X × List Text) → first_field read ws ≡ Some p → P p.0
 field_form read P form ws p e =
     let t = then_some (first_word ws) _ p e in
     let u = map_some (read t.0.0) _ p t.2 in
     subst (λ (p : _ × List Text). P p.0) u.2 (form t.0.0 u.0 u.1)
 
-only_form : {X : Type 0} (read : Text → Option X) (ws : List Text) (x : X) → only_word read ws ≡ Some x → (w : Text) × (read w ≡ Some x)
+only_form : {X : Type 0} (read : Text → Option X) (ws : List Text) (x : X) → only_word read ws ≡ Some x → (w : Text)
+    × (read w ≡ Some x)
 only_form read ws x e = let t = then_some (first_word ws) _ x e in (t.0.0, by (is_some (first_word t.0.1)) t.2)
   where
     by : {X : Type 0} {o : Option X} {x : X} (b : Bool) → cond b None o ≡ Some x → o ≡ Some x
@@ -108,15 +119,19 @@ head_form ws p e =
 count_form : (ws : List Text) (p : ℕ × List Text) → first_field (digits 9) ws ≡ Some p → p.0 < 10 ^ 9
 count_form ws p e = field_form (digits 9) (λ n. n < 10 ^ 9) (digits_form 9) ws p e
 
-each_form : (ws : List Text) (zs : List ℤ) → each (signed 6) ws ≡ Some zs → (length zs ≡ length ws) × All (HasDigits 6) zs
-each_form [] zs e = let none : [] ≡ zs = some_is [] zs e in subst (λ (zs : List ℤ). (length zs ≡ 0) × All (HasDigits 6) zs) none (refl, All-nil (HasDigits 6))
+each_form : (ws : List Text) (zs : List ℤ) → each (signed 6) ws ≡ Some zs → (length zs ≡ length ws)
+    × All (HasDigits 6) zs
+each_form [] zs e = let none : [] ≡ zs = some_is [] zs e in
+    subst (λ (zs : List ℤ). (length zs ≡ 0) × All (HasDigits 6) zs) none (refl, All-nil (HasDigits 6))
 each_form (w ∷ ws) zs e =
     let z = then_some (signed 6 w) _ zs e in
     let rest = map_some (each (signed 6) ws) (λ (zs : List ℤ). z.0 ∷ zs) zs z.2 in
     let more = each_form ws rest.0 rest.1 in
-    subst (λ (zs : List ℤ). (length zs ≡ length (w ∷ ws)) × All (HasDigits 6) zs) rest.2 (ap suc more.0, All-cons (HasDigits 6) z.0 rest.0 (signed_form 6 w z.0 z.1) more.1)
+    subst (λ (zs : List ℤ). (length zs ≡ length (w ∷ ws)) × All (HasDigits 6) zs)
+    rest.2 (ap suc more.0, All-cons (HasDigits 6) z.0 rest.0 (signed_form 6 w z.0 z.1) more.1)
 
-posts_form : (ws : List Text) (zs : List ℤ) → posts ws ≡ Some zs → (0 < length zs) × (length zs ≤ 64) × All (HasDigits 6) zs
+posts_form : (ws : List Text) (zs : List ℤ) → posts ws ≡ Some zs → (0 < length zs) × (length zs ≤ 64)
+    × All (HasDigits 6) zs
 unfolding posts
 posts_form ws zs e =
     let t = then_if (nat_lt 0 (length ws) && nat_le (length ws) 64) (each (signed 6) ws) zs e in
@@ -185,9 +200,12 @@ step_form w s e = by (bytes_eq w (codes "all")) e
 
 word_form : (w : Text) (s : Sentence) → one_word w ≡ Some s → IsSentence s
 unfolding one_word
-word_form w s e = by (bytes_eq w (codes "publish")) (bytes_eq w (codes "open")) (bytes_eq w (codes "versions")) (bytes_eq w (codes "quit")) e
+word_form w s e = by (bytes_eq w (codes "publish")) (bytes_eq w (codes "open")) (bytes_eq w (codes "versions"))
+    (bytes_eq w (codes "quit")) e
   where
-    by : (a b c d : Bool) → cond a (Some publish) (cond b (Some open_session) (cond c (Some versions) (cond d (Some quit) None))) ≡ Some s → IsSentence s
+    by : (a b c d : Bool)
+        → cond a (Some publish) (cond b (Some open_session) (cond c (Some versions) (cond d (Some quit) None)))
+        ≡ Some s → IsSentence s
     by true b c d e = subst IsSentence (some_is publish s e) tt
     by false true c d e = subst IsSentence (some_is open_session s e) tt
     by false false true d e = subst IsSentence (some_is versions s e) tt
@@ -197,11 +215,19 @@ word_form w s e = by (bytes_eq w (codes "publish")) (bytes_eq w (codes "open")) 
 sentence_form : (first : Text) (ws : List Text) (s : Sentence) → sentence first ws ≡ Some s → IsSentence s
 unfolding sentence
 sentence_form first ws s e =
-    by (bytes_eq first (codes "inline")) (bytes_eq first (codes "source")) (bytes_eq first (codes "step")) (bytes_eq first (codes "tile")) (bytes_eq first (codes "close")) (is_some (first_word ws)) e
+    by (bytes_eq first (codes "inline")) (bytes_eq first (codes "source")) (bytes_eq first (codes "step"))
+    (bytes_eq first (codes "tile")) (bytes_eq first (codes "close")) (is_some (first_word ws)) e
   where
-    by : (a b c d f g : Bool) → cond a (option_map inline (inline_source ws)) (cond b (option_map source (file_source ws)) (cond c (only_word step_word ws) (cond d (tile_request ws) (cond f (option_map close (only_word (digits 9) ws)) (cond g None (one_word first)))))) ≡ Some s → IsSentence s
-    by true b c d f g e = let t = map_some (inline_source ws) inline s e in subst IsSentence t.2 (inline_form ws t.0 t.1)
-    by false true c d f g e = let t = map_some (file_source ws) source s e in subst IsSentence t.2 (file_form ws t.0 t.1)
+    by : (a b c d f g : Bool)
+        → cond a (option_map inline (inline_source ws))
+        (cond b (option_map source (file_source ws))
+        (cond c (only_word step_word ws)
+        (cond d (tile_request ws)
+        (cond f (option_map close (only_word (digits 9) ws)) (cond g None (one_word first)))))) ≡ Some s → IsSentence s
+    by true b c d f g e = let t = map_some (inline_source ws) inline s e in
+        subst IsSentence t.2 (inline_form ws t.0 t.1)
+    by false true c d f g e = let t = map_some (file_source ws) source s e in
+        subst IsSentence t.2 (file_form ws t.0 t.1)
     by false false true d f g e = let t = only_form step_word ws s e in step_form t.0 s t.1
     by false false false true f g e = tile_form ws s e
     by false false false false true g e =
@@ -215,6 +241,8 @@ pub line_form : ReadingHasForm
 unfolding line_of
 line_form line s e = by (bytes_eq line []) e
   where
-    by : (b : Bool) → cond b (Some blank) (option_and_then (λ p. sentence p.0 p.1) (first_word (words line))) ≡ Some s → IsSentence s
+    by : (b : Bool) → cond b (Some blank) (option_and_then (λ p. sentence p.0 p.1) (first_word (words line)))
+        ≡ Some s → IsSentence s
     by true e = subst IsSentence (some_is blank s e) tt
-    by false e = let t = then_some (first_word (words line)) (λ p. sentence p.0 p.1) s e in sentence_form t.0.0 t.0.1 s t.2
+    by false e = let t = then_some (first_word (words line)) (λ p. sentence p.0 p.1) s e in
+        sentence_form t.0.0 t.0.1 s t.2

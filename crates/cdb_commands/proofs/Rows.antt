@@ -11,7 +11,14 @@ Says line s = line_of line ≡ Some s
 
 -- four posts at steps of half a degree
 four_posts : Says (codes "inline elev -9 46 7 1/2 1/2 2 2 30 40 10 20") (inline (record {
-  head = record { kind = Elevation; level = negsuc 8; lat = record { n = pos 46; d = pos 1 }; lon = record { n = pos 7; d = pos 1 }; dlat = record { n = pos 1; d = pos 2 }; dlon = record { n = pos 1; d = pos 2 } };
+  head = record {
+    kind = Elevation;
+    level = negsuc 8;
+    lat = record { n = pos 46; d = pos 1 };
+    lon = record { n = pos 7; d = pos 1 };
+    dlat = record { n = pos 1; d = pos 2 };
+    dlon = record { n = pos 1; d = pos 2 };
+  };
   rows = 2;
   cols = 2;
   posts = pos 30 ∷ pos 40 ∷ pos 10 ∷ pos 20 ∷ [];
@@ -21,7 +28,14 @@ four_posts = refl
 
 -- a file of the shelf
 from_file : Says (codes "source elev -9 46 7 1/2 1/2 -32768 a.tif") (source (record {
-  head = record { kind = Elevation; level = negsuc 8; lat = record { n = pos 46; d = pos 1 }; lon = record { n = pos 7; d = pos 1 }; dlat = record { n = pos 1; d = pos 2 }; dlon = record { n = pos 1; d = pos 2 } };
+  head = record {
+    kind = Elevation;
+    level = negsuc 8;
+    lat = record { n = pos 46; d = pos 1 };
+    lon = record { n = pos 7; d = pos 1 };
+    dlat = record { n = pos 1; d = pos 2 };
+    dlon = record { n = pos 1; d = pos 2 };
+  };
   novalue = negsuc 32767;
   path = codes "a.tif";
 }))

@@ -24,7 +24,8 @@ use Rattle.cdb_commands.proofs.WritingBack.{kind_back, kind_clear, read_words, p
 
 -- ---- numbers
 
-zeros_digits : (zeros : ℕ) (w : Text) → list_all is_ascii_digit w ≡ true → list_all is_ascii_digit (with_zeros zeros w) ≡ true
+zeros_digits : (zeros : ℕ) (w : Text) → list_all is_ascii_digit w ≡ true
+    → list_all is_ascii_digit (with_zeros zeros w) ≡ true
 zeros_digits zero w h = h
 zeros_digits (suc k) w h = zeros_digits k w h
 
@@ -56,30 +57,38 @@ number_read most w n is wide =
     let b : nat_le (length w) most ≡ true = le-leb (length w) most is.few in
     rw (a, b, s.all, s.value) refl
 
-number_clear : (c most : ℕ) (w : Text) (n : ℕ) → c < 48 → IsNumber most w n → n < 2 ^ 64 → is_clear (λ b. b == c) w ≡ true
+number_clear : (c most : ℕ) (w : Text) (n : ℕ) → c < 48 → IsNumber most w n → n < 2 ^ 64
+    → is_clear (λ b. b == c) w ≡ true
 number_clear c most w n low is wide = digits_clear c w low (spells most w n is wide).all
 
-behind_minus : (most : ℕ) (w : Text) (n : ℕ) → reading.digits most w ≡ Some n → reading.signed most (45 ∷ w) ≡ Some (neg_ℤ (pos n))
+behind_minus : (most : ℕ) (w : Text) (n : ℕ) → reading.digits most w ≡ Some n → reading.signed most (45 ∷ w)
+    ≡ Some (neg_ℤ (pos n))
 unfolding reading.signed
 behind_minus most w n e = rw e refl
 
-signed_read : (most : ℕ) (w : Text) (z : ℤ) → IsSigned most w z → nat_abs z < 2 ^ 64 → reading.signed most w ≡ Some z
+signed_read : (most : ℕ) (w : Text) (z : ℤ) → IsSigned most w z → nat_abs z < 2 ^ 64
+    → reading.signed most w ≡ Some z
 signed_read most w z (inl is) wide =
     let short : is.n < 2 ^ 64 = subst (λ (z : ℤ). nat_abs z < 2 ^ 64) is.value wide in
     let s = spells most w is.n is.number short in
-    plain_signed most w is.n s.some s.all (number_read most w is.n is.number short) ∙ ap (λ (z : ℤ). Some z) (sym is.value)
+    plain_signed most w is.n s.some s.all (number_read most w is.n is.number short)
+    ∙ ap (λ (z : ℤ). Some z) (sym is.value)
 signed_read most w z (inr is) wide =
     let short : is.n < 2 ^ 64 = subst (λ (n : ℕ). n < 2 ^ 64) (ap nat_abs is.value ∙ abs_neg is.n) wide in
     subst (λ (w : Text). reading.signed most w ≡ Some z) (sym is.minus)
-    (behind_minus most is.digits is.n (number_read most is.digits is.n is.number short) ∙ ap (λ (z : ℤ). Some z) (sym is.value))
+    (behind_minus most is.digits is.n (number_read most is.digits is.n is.number short)
+    ∙ ap (λ (z : ℤ). Some z) (sym is.value))
 
-signed_clear : (c most : ℕ) (w : Text) (z : ℤ) → c < 48 → not (45 == c) ≡ true → IsSigned most w z → nat_abs z < 2 ^ 64 → is_clear (λ b. b == c) w ≡ true
+signed_clear : (c most : ℕ) (w : Text) (z : ℤ) → c < 48 → not (45 == c) ≡ true → IsSigned most w z
+    → nat_abs z < 2 ^ 64
+    → is_clear (λ b. b == c) w ≡ true
 signed_clear c most w z low other (inl is) wide =
     let short : is.n < 2 ^ 64 = subst (λ (z : ℤ). nat_abs z < 2 ^ 64) is.value wide in
     number_clear c most w is.n low is.number short
 signed_clear c most w z low other (inr is) wide =
     let short : is.n < 2 ^ 64 = subst (λ (n : ℕ). n < 2 ^ 64) (ap nat_abs is.value ∙ abs_neg is.n) wide in
-    subst (λ (w : Text). is_clear (λ b. b == c) w ≡ true) (sym is.minus) (rw other (number_clear c most is.digits is.n low is.number short))
+    subst (λ (w : Text). is_clear (λ b. b == c) w ≡ true) (sym is.minus)
+    (rw other (number_clear c most is.digits is.n low is.number short))
 
 -- ---- degrees
 
@@ -96,22 +105,27 @@ degrees_read w f (inl is) form =
     ∙ ap (λ (d : ℤ). let g : Fraction = record { n = f.n; d = d } in Some g) (sym is.bottom)
 degrees_read w f (inr is) form =
     subst (λ (w : Text). fraction w ≡ Some f) (sym is.slash)
-    (ratio_back is.before is.after f.n is.n (signed_clear 47 18 is.before f.n (omega arith) refl is.top (within f.n form.top))
-    (signed_read 18 is.before f.n is.top (within f.n form.top)) (number_read 18 is.after is.n is.bottom (bottom_within f is.n form.bottom is.value))
+    (ratio_back is.before is.after f.n is.n (signed_clear 47 18 is.before f.n (omega arith)
+    refl is.top (within f.n form.top))
+    (signed_read 18 is.before f.n is.top (within f.n form.top))
+    (number_read 18 is.after is.n is.bottom (bottom_within f is.n form.bottom is.value))
     ∙ ap (λ (d : ℤ). let g : Fraction = record { n = f.n; d = d } in Some g) (sym is.value))
 
 degrees_clear : (w : Text) (f : Fraction) → IsDegrees w f → IsWritableFraction f → has_no_space w ≡ true
 degrees_clear w f (inl is) form = signed_clear 32 18 w f.n (omega arith) refl is.top (within f.n form.top)
 degrees_clear w f (inr is) form =
     let top = signed_clear 32 18 is.before f.n (omega arith) refl is.top (within f.n form.top) in
-    let bottom = number_clear 32 18 is.after is.n (omega arith) is.bottom (bottom_within f is.n form.bottom is.value) in
+    let bottom = number_clear 32 18 is.after is.n (omega arith)
+    is.bottom (bottom_within f is.n form.bottom is.value) in
     subst (λ (w : Text). has_no_space w ≡ true) (sym is.slash)
     (list_all-append (λ c. not (is_space c)) is.before (47 ∷ is.after) ∙ rw (top, bottom) refl)
 
 -- ---- words
 
-six_words : (a b c d f g : Text) (rest : List Text) (h : Head) → a ≡ kind_text h.kind → reading.signed 9 b ≡ Some h.level → fraction c ≡ Some h.lat
-    → fraction d ≡ Some h.lon → fraction f ≡ Some h.dlat → fraction g ≡ Some h.dlon → head (a ∷ b ∷ c ∷ d ∷ f ∷ g ∷ rest) ≡ Some (h, rest)
+six_words : (a b c d f g : Text) (rest : List Text) (h : Head) → a ≡ kind_text h.kind → reading.signed 9 b
+    ≡ Some h.level → fraction c ≡ Some h.lat
+    → fraction d ≡ Some h.lon → fraction f ≡ Some h.dlat → fraction g ≡ Some h.dlon
+    → head (a ∷ b ∷ c ∷ d ∷ f ∷ g ∷ rest) ≡ Some (h, rest)
 unfolding head
 six_words a b c d f g rest h ea eb ec ed ef eg = rw (ea, kind_back h.kind, eb, ec, ed, ef, eg) refl
 
@@ -122,7 +136,8 @@ record HasHead (ws : List Text) (h : Head) (more : List Said) : Type 0 where
   clear : list_all has_no_space ws ≡ list_all has_no_space rest
   say : Say rest more
 
-head_read : (ws : List Text) (h : Head) (more : List Said) → Say ws (head_said h ++ more) → IsWritableHead h → HasHead ws h more
+head_read : (ws : List Text) (h : Head) (more : List Said) → Say ws (head_said h ++ more) → IsWritableHead h
+    → HasHead ws h more
 head_read [] h more say is = absurd say
 head_read (a ∷ []) h more say is = absurd say.1
 head_read (a ∷ b ∷ []) h more say is = absurd say.1.1
@@ -137,7 +152,8 @@ head_read (a ∷ b ∷ c ∷ d ∷ f ∷ g ∷ rest) h more say is =
     let dlon = say.1.1.1.1.1.0 in
     record {
       rest = rest;
-      read = six_words a b c d f g rest h say.0 (signed_read 9 b h.level say.1.0 (omega arith)) (degrees_read c h.lat lat is.lat) (degrees_read d h.lon lon is.lon)
+      read = six_words a b c d f g rest h say.0 (signed_read 9 b h.level say.1.0 (omega arith))
+          (degrees_read c h.lat lat is.lat) (degrees_read d h.lon lon is.lon)
           (degrees_read f h.dlat dlat is.dlat) (degrees_read g h.dlon dlon is.dlon);
       clear = rw (
         say.0,
@@ -157,7 +173,8 @@ record HavePosts (ws : List Text) (zs : List ℤ) : Type 0 where
   clear : list_all has_no_space ws ≡ true
   count : length ws ≡ length zs
 
-each_read : (ws : List Text) (zs : List ℤ) → Say ws (map (λ z. signed 6 z) zs) → All (HasDigits 6) zs → HavePosts ws zs
+each_read : (ws : List Text) (zs : List ℤ) → Say ws (map (λ z. signed 6 z) zs) → All (HasDigits 6) zs
+    → HavePosts ws zs
 each_read [] [] say h = record { read = refl; clear = refl; count = refl }
 each_read [] (z ∷ zs) say h = absurd say
 each_read (w ∷ ws) [] say h = absurd say
@@ -170,7 +187,8 @@ each_read (w ∷ ws) (z ∷ zs) say h =
       count = ap suc r.count;
     }
 
-posts_read : (ws : List Text) (zs : List ℤ) → each (reading.signed 6) ws ≡ Some zs → 0 < length ws → length ws ≤ 64 → posts ws ≡ Some zs
+posts_read : (ws : List Text) (zs : List ℤ) → each (reading.signed 6) ws ≡ Some zs → 0 < length ws → length ws ≤ 64
+    → posts ws ≡ Some zs
 unfolding posts
 posts_read ws zs e some few =
     let a : nat_lt 0 (length ws) ≡ true = lt-ltb 0 (length ws) some in
@@ -186,7 +204,9 @@ IsRead words s = line_of (join_with_byte 32 words) ≡ Some s
 count_within : (n : ℕ) → n < 10 ^ 9 → n < 2 ^ 64
 count_within n h = omega arith
 
-inline_read : (ws : List Text) (s : InlineSource) → Say ws (head_said s.head ++ number 9 s.rows ∷ number 9 s.cols ∷ map (λ z. signed 6 z) s.posts) → IsInlineSource s
+inline_read : (ws : List Text) (s : InlineSource)
+    → Say ws (head_said s.head ++ number 9 s.rows ∷ number 9 s.cols ∷ map (λ z. signed 6 z) s.posts)
+    → IsInlineSource s
     → (inline_source ws ≡ Some s) × (list_all has_no_space ws ≡ true)
 unfolding inline_source
 inline_read ws s say is = by h.rest h.read h.clear h.say
@@ -195,19 +215,27 @@ inline_read ws s say is = by h.rest h.read h.clear h.say
     h = head_read ws s.head (number 9 s.rows ∷ number 9 s.cols ∷ map (λ z. signed 6 z) s.posts) say is.head
 
     by : (rest : List Text) → head ws ≡ Some (s.head, rest) → list_all has_no_space ws ≡ list_all has_no_space rest
-        → Say rest (number 9 s.rows ∷ number 9 s.cols ∷ map (λ z. signed 6 z) s.posts) → (inline_source ws ≡ Some s) × (list_all has_no_space ws ≡ true)
+        → Say rest (number 9 s.rows ∷ number 9 s.cols ∷ map (λ z. signed 6 z) s.posts) → (inline_source ws ≡ Some s)
+        × (list_all has_no_space ws ≡ true)
     by [] e f say = absurd say
     by (r ∷ []) e f say = absurd say.1
     by (r ∷ k ∷ ps) e f say =
         let rows = count_within s.rows is.rows in
         let cols = count_within s.cols is.cols in
         let p = each_read ps s.posts say.1.1 is.posts in
-        let ps_read = posts_read ps s.posts p.read (omega (arith, p.count, is.some)) (omega (arith, p.count, is.few)) in (
+        let ps_read = posts_read ps s.posts p.read (omega (arith, p.count, is.some))
+        (omega (arith, p.count, is.few)) in (
           rw (e, number_read 9 r s.rows say.0 rows, number_read 9 k s.cols say.1.0 cols, ps_read) refl,
-          f ∙ rw (number_clear 32 9 r s.rows (omega arith) say.0 rows, number_clear 32 9 k s.cols (omega arith) say.1.0 cols, p.clear) refl,
+          f ∙ rw (
+            number_clear 32 9 r s.rows (omega arith) say.0 rows,
+            number_clear 32 9 k s.cols (omega arith)
+                say.1.0 cols,
+            p.clear,
+          ) refl,
         )
 
-file_read : (ws : List Text) (s : FileSource) → Say ws (head_said s.head ++ signed 9 s.novalue ∷ itself s.path ∷ []) → IsFileSource s
+file_read : (ws : List Text) (s : FileSource) → Say ws (head_said s.head ++ signed 9 s.novalue ∷ itself s.path ∷ [])
+    → IsFileSource s
     → (file_source ws ≡ Some s) × (list_all has_no_space ws ≡ true)
 unfolding file_source
 file_read ws s say is = by h.rest h.read h.clear h.say
@@ -216,14 +244,19 @@ file_read ws s say is = by h.rest h.read h.clear h.say
     h = head_read ws s.head (signed 9 s.novalue ∷ itself s.path ∷ []) say is.head
 
     by : (rest : List Text) → head ws ≡ Some (s.head, rest) → list_all has_no_space ws ≡ list_all has_no_space rest
-        → Say rest (signed 9 s.novalue ∷ itself s.path ∷ []) → (file_source ws ≡ Some s) × (list_all has_no_space ws ≡ true)
+        → Say rest (signed 9 s.novalue ∷ itself s.path ∷ []) → (file_source ws ≡ Some s)
+        × (list_all has_no_space ws ≡ true)
     by [] e f say = absurd say
     by (v ∷ []) e f say = absurd say.1
     by (v ∷ p ∷ q ∷ rest) e f say = absurd say.1.1
     by (v ∷ p ∷ []) e f say =
         let short : nat_abs s.novalue < 10 ^ 9 = is.novalue in (
           rw (e, signed_read 9 v s.novalue say.0 (omega arith), say.1.0, is.path) refl,
-          f ∙ rw (signed_clear 32 9 v s.novalue (omega arith) refl say.0 (omega arith), say.1.0, path_clear s.path is.path) refl,
+          f ∙ rw (
+            signed_clear 32 9 v s.novalue (omega arith) refl say.0 (omega arith),
+            say.1.0,
+            path_clear s.path is.path,
+          ) refl,
         )
 
 -- a line that begins with this word
@@ -236,10 +269,12 @@ starts : (c : ℕ) (w : Text) (ws : List Text) → Starts (c ∷ w) ws
 starts c w [] = record { byte = c; rest = w; is = refl }
 starts c w (v ∷ ws) = record { byte = c; rest = w ++ 32 ∷ join_with_byte 32 (v ∷ ws); is = refl }
 
-says_line : (c : ℕ) (w first : Text) (ws : List Text) (s : Sentence) → first ≡ c ∷ w → list_all has_no_space ((c ∷ w) ∷ ws) ≡ true → sentence (c ∷ w) ws ≡ Some s → IsRead (first ∷ ws) s
+says_line : (c : ℕ) (w first : Text) (ws : List Text) (s : Sentence) → first ≡ c ∷ w
+    → list_all has_no_space ((c ∷ w) ∷ ws) ≡ true → sentence (c ∷ w) ws ≡ Some s → IsRead (first ∷ ws) s
 says_line c w first ws s e clear said =
     let t = starts c w ws in
-    subst (λ (first : Text). IsRead (first ∷ ws) s) (sym e) (read_words (c ∷ w) t.byte t.rest ws (Some s) t.is clear said)
+    subst (λ (first : Text). IsRead (first ∷ ws) s) (sym e)
+    (read_words (c ∷ w) t.byte t.rest ws (Some s) t.is clear said)
 
 words_read : (words : List Text) (s : Sentence) → IsSentence s → Say words (all_said s) → IsRead words s
 unfolding sentence one_word tile_request
@@ -257,12 +292,14 @@ words_read (w ∷ []) (step n) is say = absurd say.1
 words_read (w ∷ v ∷ u ∷ ws) (step n) is say = absurd say.1.1
 words_read (w ∷ v ∷ []) (step n) is say =
     let short = count_within n is in
-    let word : step_word v ≡ Some (step n) = rw (not_all v (spells 9 v n say.1.0 short).all, number_read 9 v n say.1.0 short) refl in
+    let word : step_word v ≡ Some (step n) =
+    rw (not_all v (spells 9 v n say.1.0 short).all, number_read 9 v n say.1.0 short) refl in
     says_line _ _ w (v ∷ []) (step n) say.0 (rw (number_clear 32 9 v n (omega arith) say.1.0 short) refl) word
 words_read [] step_all is say = absurd say
 words_read (w ∷ []) step_all is say = absurd say.1
 words_read (w ∷ v ∷ u ∷ ws) step_all is say = absurd say.1.1
-words_read (w ∷ v ∷ []) step_all is say = says_line _ _ w (v ∷ []) step_all say.0 (rw say.1.0 refl) (rw say.1.0 refl)
+words_read (w ∷ v ∷ []) step_all is say = says_line _ _ w (v ∷ []) step_all say.0 (rw say.1.0 refl)
+    (rw say.1.0 refl)
 words_read [] open_session is say = absurd say
 words_read (w ∷ []) open_session is say = says_line _ _ w [] open_session say.0 refl refl
 words_read (w ∷ v ∷ ws) open_session is say = absurd say.1
@@ -280,7 +317,8 @@ words_read (w ∷ []) (close id) is say = absurd say.1
 words_read (w ∷ v ∷ u ∷ ws) (close id) is say = absurd say.1.1
 words_read (w ∷ v ∷ []) (close id) is say =
     let short = count_within id is in
-    says_line _ _ w (v ∷ []) (close id) say.0 (rw (number_clear 32 9 v id (omega arith) say.1.0 short) refl) (rw (number_read 9 v id say.1.0 short) refl)
+    says_line _ _ w (v ∷ []) (close id) say.0 (rw (number_clear 32 9 v id (omega arith) say.1.0 short) refl)
+    (rw (number_read 9 v id say.1.0 short) refl)
 words_read [] versions is say = absurd say
 words_read (w ∷ []) versions is say = says_line _ _ w [] versions say.0 refl refl
 words_read (w ∷ v ∷ ws) versions is say = absurd say.1

@@ -28,28 +28,57 @@ head_back : (h : Head) (rest : List Text) → IsWritableHead h → head (head_wo
 unfolding head
 head_back h rest is =
     let short : nat_abs h.level < 10 ^ 9 = is.level in
-    rw (kind_back h.kind, signed_back 9 h.level (omega arith) short (omega arith), fraction_back h.lat is.lat, fraction_back h.lon is.lon, fraction_back h.dlat is.dlat, fraction_back h.dlon is.dlon) refl
+    rw (
+      kind_back h.kind,
+      signed_back 9 h.level (omega arith) short (omega arith),
+      fraction_back h.lat is.lat,
+      fraction_back h.lon is.lon,
+      fraction_back h.dlat is.dlat,
+      fraction_back h.dlon is.dlon,
+    ) refl
 
-head_clear : (h : Head) (rest : List Text) → IsWritableHead h → list_all has_no_space (head_words h ++ rest) ≡ list_all has_no_space rest
+head_clear : (h : Head) (rest : List Text) → IsWritableHead h → list_all has_no_space (head_words h ++ rest)
+    ≡ list_all has_no_space rest
 head_clear h rest is =
     let short : nat_abs h.level < 10 ^ 9 = is.level in
-    rw (kind_clear h.kind, signed_clear 32 h.level (omega arith) refl (omega arith), fraction_clear h.lat is.lat, fraction_clear h.lon is.lon, fraction_clear h.dlat is.dlat, fraction_clear h.dlon is.dlon) refl
+    rw (
+      kind_clear h.kind,
+      signed_clear 32 h.level (omega arith) refl (omega arith),
+      fraction_clear h.lat is.lat,
+      fraction_clear h.lon is.lon,
+      fraction_clear h.dlat is.dlat,
+      fraction_clear h.dlon is.dlon,
+    ) refl
 
-inline_back : (s : InlineSource) → IsInlineSource s → inline_source (head_words s.head ++ decimal s.rows ∷ decimal s.cols ∷ map signed_decimal s.posts) ≡ Some s
+inline_back : (s : InlineSource) → IsInlineSource s
+    → inline_source (head_words s.head ++ decimal s.rows ∷ decimal s.cols ∷ map signed_decimal s.posts) ≡ Some s
 unfolding inline_source
 inline_back s is =
     let rows : s.rows < 10 ^ 9 = is.rows in
     let cols : s.cols < 10 ^ 9 = is.cols in
-    rw (head_back s.head (decimal s.rows ∷ decimal s.cols ∷ map signed_decimal s.posts) is.head, digits_back 9 s.rows (omega arith) rows (omega arith), digits_back 9 s.cols (omega arith) cols (omega arith), posts_back s.posts is.some is.few is.posts) refl
+    rw (
+      head_back s.head (decimal s.rows ∷ decimal s.cols ∷ map signed_decimal s.posts) is.head,
+      digits_back 9 s.rows (omega arith) rows (omega arith),
+      digits_back 9 s.cols (omega arith) cols (omega arith),
+      posts_back s.posts is.some is.few is.posts,
+    ) refl
 
-file_back : (s : FileSource) → IsFileSource s → file_source (head_words s.head ++ signed_decimal s.novalue ∷ s.path ∷ []) ≡ Some s
+file_back : (s : FileSource) → IsFileSource s
+    → file_source (head_words s.head ++ signed_decimal s.novalue ∷ s.path ∷ []) ≡ Some s
 unfolding file_source
 file_back s is =
     let short : nat_abs s.novalue < 10 ^ 9 = is.novalue in
-    rw (head_back s.head (signed_decimal s.novalue ∷ s.path ∷ []) is.head, signed_back 9 s.novalue (omega arith) short (omega arith), is.path) refl
+    rw (
+      head_back s.head (signed_decimal s.novalue ∷ s.path ∷ []) is.head,
+      signed_back 9 s.novalue (omega arith) short
+          (omega arith),
+      is.path,
+    ) refl
 
 -- a line of words without spaces is read by its words
-pub read_words : (first : Text) (c : ℕ) (rest : Text) (ws : List Text) (s : Option Sentence) → join_with_byte 32 (first ∷ ws) ≡ c ∷ rest → list_all has_no_space (first ∷ ws) ≡ true → sentence first ws ≡ s → line_of (join_with_byte 32 (first ∷ ws)) ≡ s
+pub read_words : (first : Text) (c : ℕ) (rest : Text) (ws : List Text) (s : Option Sentence)
+    → join_with_byte 32 (first ∷ ws) ≡ c ∷ rest → list_all has_no_space (first ∷ ws) ≡ true → sentence first ws ≡ s
+    → line_of (join_with_byte 32 (first ∷ ws)) ≡ s
 unfolding line_of
 read_words first c rest ws s starts clear said =
     let some : bytes_eq (join_with_byte 32 (first ∷ ws)) [] ≡ false = ap (λ (t : Text). bytes_eq t []) starts in
@@ -62,7 +91,8 @@ some_if false x y e = absurd cc
 pub path_clear : (p : Text) → path_word p ≡ Some p → has_no_space p ≡ true
 unfolding path_word
 path_clear p is =
-    let t = both (nat_le (length p) 128) (list_all is_part (slice_split is_slash p)) (some_if (nat_le (length p) 128 && list_all is_part (slice_split is_slash p)) p p is) in
+    let t = both (nat_le (length p) 128) (list_all is_part (slice_split is_slash p))
+    (some_if (nat_le (length p) 128 && list_all is_part (slice_split is_slash p)) p p is) in
     weaker is_byte_of_path (λ c. not (is_space c)) p no_space (path_bytes p t.1)
   where
     no_space : (c : ℕ) → is_byte_of_path c ≡ true → not (is_space c) ≡ true
@@ -72,7 +102,8 @@ pub name_clear : (name : Text) → file_name name ≡ Some name → has_no_space
 unfolding file_name
 name_clear name is =
     let short = nat_lt 0 (length name) && nat_le (length name) 128 in
-    let t = both short (list_all is_ascii_graphic name) (some_if (short && list_all is_ascii_graphic name) name name is) in
+    let t = both short (list_all is_ascii_graphic name)
+    (some_if (short && list_all is_ascii_graphic name) name name is) in
     weaker is_ascii_graphic (λ c. not (is_space c)) name no_space t.1
   where
     no_space : (c : ℕ) → is_ascii_graphic c ≡ true → not (is_space c) ≡ true
@@ -81,7 +112,8 @@ name_clear name is =
 -- a number isn't the word `all`
 pub not_all : (w : Text) → list_all is_ascii_digit w ≡ true → bytes_eq w (codes "all") ≡ false
 not_all [] h = refl
-not_all (c ∷ w) h = let other : nat_eq c 97 ≡ false = apart c (both (is_ascii_digit c) (list_all is_ascii_digit w) h).0 in rw other refl
+not_all (c ∷ w) h = let other : nat_eq c 97 ≡ false =
+    apart c (both (is_ascii_digit c) (list_all is_ascii_digit w) h).0 in rw other refl
   where
     apart : (c : ℕ) → is_ascii_digit c ≡ true → nat_eq c 97 ≡ false
     apart c h = grind (arith, nat_tests)
@@ -103,19 +135,26 @@ pub reads_back : WritingReadsBack
 unfolding sentence one_word tile_request
 reads_back (inline s) is =
     let ws = decimal s.rows ∷ decimal s.cols ∷ map signed_decimal s.posts in
-    let clear : list_all has_no_space ws ≡ true = rw (count_clear s.rows is.rows, count_clear s.cols is.cols) (posts_clear s.posts is.posts) in
-    read_words (codes "inline") _ _ (head_words s.head ++ ws) (Some (inline s)) refl (head_clear s.head ws is.head ∙ clear) (ap (option_map inline) (inline_back s is))
+    let clear : list_all has_no_space ws ≡ true = rw (count_clear s.rows is.rows, count_clear s.cols is.cols)
+    (posts_clear s.posts is.posts) in
+    read_words (codes "inline") _ _ (head_words s.head ++ ws) (Some (inline s)) refl
+    (head_clear s.head ws is.head ∙ clear) (ap (option_map inline) (inline_back s is))
 reads_back (source s) is =
     let ws = signed_decimal s.novalue ∷ s.path ∷ [] in
     let short : nat_abs s.novalue < 10 ^ 9 = is.novalue in
-    let clear : list_all has_no_space ws ≡ true = rw (signed_clear 32 s.novalue (omega arith) refl (omega arith), path_clear s.path is.path) refl in
-    read_words (codes "source") _ _ (head_words s.head ++ ws) (Some (source s)) refl (head_clear s.head ws is.head ∙ clear) (ap (option_map source) (file_back s is))
+    let clear : list_all has_no_space ws ≡ true =
+    rw (signed_clear 32 s.novalue (omega arith) refl (omega arith), path_clear s.path is.path) refl in
+    read_words (codes "source") _ _ (head_words s.head ++ ws) (Some (source s)) refl
+    (head_clear s.head ws is.head ∙ clear) (ap (option_map source) (file_back s is))
 reads_back publish is = read_words (codes "publish") _ _ [] _ refl refl refl
-reads_back (step n) is = read_words (codes "step") _ _ (decimal n ∷ []) _ refl (rw (count_clear n is) refl) (steps_back n is)
+reads_back (step n) is = read_words (codes "step") _ _ (decimal n ∷ []) _ refl (rw (count_clear n is) refl)
+    (steps_back n is)
 reads_back step_all is = read_words (codes "step") _ _ (codes "all" ∷ []) _ refl refl refl
 reads_back open_session is = read_words (codes "open") _ _ [] _ refl refl refl
-reads_back (tile id file) is = read_words (codes "tile") _ _ (decimal id ∷ file ∷ []) _ refl (rw (count_clear id is.0, name_clear file is.1) refl) (rw (count_back id is.0, is.1) refl)
-reads_back (close id) is = read_words (codes "close") _ _ (decimal id ∷ []) _ refl (rw (count_clear id is) refl) (rw (count_back id is) refl)
+reads_back (tile id file) is = read_words (codes "tile") _ _ (decimal id ∷ file ∷ []) _ refl
+    (rw (count_clear id is.0, name_clear file is.1) refl) (rw (count_back id is.0, is.1) refl)
+reads_back (close id) is = read_words (codes "close") _ _ (decimal id ∷ []) _ refl (rw (count_clear id is) refl)
+    (rw (count_back id is) refl)
 reads_back versions is = read_words (codes "versions") _ _ [] _ refl refl refl
 reads_back quit is = read_words (codes "quit") _ _ [] _ refl refl refl
 reads_back blank is = blank_back

@@ -13,4 +13,5 @@ bare_app = on_top (λ s. record s { no_binary_name = true; disable_help_flag = t
 
 abbrev pub options_app : App
 options_app = with_rule (with_rule (with_rule (with_rule bare_app
-    (option_rule (codes "mode"))) (option_rule (codes "background"))) (option_rule (codes "start"))) (option_rule (codes "count"))
+    (option_rule (codes "mode"))) (option_rule (codes "background"))) (option_rule (codes "start")))
+    (option_rule (codes "count"))

@@ -26,7 +26,8 @@ option_number least most default (Some text) = option_and_then (within least mos
 
 -- the options that four texts give
 abbrev pub chosen : Option Mode → Option ℕ → Option ℕ → Option ℕ → Option Options
-chosen (Some mode) (Some background) (Some start) (Some count) = Some (record { mode = mode; background = background; start = start; count = count })
+chosen (Some mode) (Some background) (Some start) (Some count) =
+    Some (record { mode = mode; background = background; start = start; count = count })
 chosen _ _ _ _ = None
 
 abbrev pub options_in : List Use → Option Options

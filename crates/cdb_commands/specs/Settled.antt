@@ -1,5 +1,5 @@
--- A line of the script is one thing to the program: a sentence with a tile's file name where it has one, a request for a
--- tile whose file name is first wrong at a place, or no line of the grammar. So it is one event of the machine.
+-- A line of the script is one thing to the program: a sentence with a tile's file name where it has one, a request for
+-- a tile whose file name is first wrong at a place, or no line of the grammar. So it is one event of the machine.
 use Rattle.std.specs.Prelude.{◌≡◌, Some, Result, Ok, Err}
 use Rattle.cdb_model.specs.Grammar.{line_of, sentence_in, IsRefused}
 use Rattle.cdb_model.specs.declared.line.Line.{Line}
@@ -33,4 +33,5 @@ has files path content = files path ≡ content
 
 -- what a line says is one event, with the file of a source among these files
 abbrev pub OneEvent : Type 0
-OneEvent = (files : FileMap) (command : Command) (a b : Event) → Means (has files) a command → Means (has files) b command → a ≡ b
+OneEvent = (files : FileMap) (command : Command) (a b : Event) → Means (has files) a command
+    → Means (has files) b command → a ≡ b

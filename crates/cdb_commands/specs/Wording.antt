@@ -1,4 +1,5 @@
--- The texts that may stand for a sentence: its words with one space between each two, numbers with leading zeros or without.
+-- The texts that may stand for a sentence: its words with one space between each two, numbers with leading zeros or
+-- without.
 use Rattle.std.specs.Prelude.{◌≡◌, ℕ, zero, suc, ℤ, pos, neg_ℤ, ◌≤◌, ◌⊎◌, List, [], ◌∷◌, ◌++◌, length, map, codes, Some}
 use Rattle.std.specs.Fmt.{decimal}
 use Rattle.std.specs.List.{join_with_byte}
@@ -82,7 +83,8 @@ head_said h =
 
 -- what the words of a sentence say, one by one
 abbrev pub all_said : Sentence → List Said
-all_said (inline s) = itself (codes "inline") ∷ (head_said s.head ++ number 9 s.rows ∷ number 9 s.cols ∷ map (λ z. signed 6 z) s.posts)
+all_said (inline s) =
+    itself (codes "inline") ∷ (head_said s.head ++ number 9 s.rows ∷ number 9 s.cols ∷ map (λ z. signed 6 z) s.posts)
 all_said (source s) = itself (codes "source") ∷ (head_said s.head ++ signed 9 s.novalue ∷ itself s.path ∷ [])
 all_said publish = itself (codes "publish") ∷ []
 all_said (step n) = itself (codes "step") ∷ number 9 n ∷ []

@@ -35,7 +35,8 @@ fn error_of(error: Error) -> WordsError
 /// What the words give for each option. `Usage` exactly where the command refuses them.
 fn read_given<'a>(alloc: Global, words: &'a [&'a str]) -> Result<Given<'a>, WordsError>
     ensures ok { IfOk result (IsGiven (map (λ s. s.now) words.entry.now)) }
-    ensures usage { IfErr result (λ e. e ≡ WordsError.Usage → fault_of options_app (map (λ s. s.now) words.entry.now) ≢ []) }
+    ensures usage { IfErr result
+        (λ e. e ≡ WordsError.Usage → fault_of options_app (map (λ s. s.now) words.entry.now) ≢ []) }
 {
     let Ok(command) = command(alloc) else {
         return Err(WordsError::Memory);
@@ -81,7 +82,8 @@ fn all_words(words: &[&str]) -> bool
 /// option at most once.
 pub fn read_uses<'a>(alloc: Global, words: &'a [&'a str]) -> Result<Given<'a>, WordsError>
     ensures ok { IfOk result (SpellsOptions (map (λ s. s.now) words.entry.now)) }
-    ensures usage { IfErr result (λ e. e ≡ WordsError.Usage → options_spelled (map (λ s. s.now) words.entry.now) ≡ None) }
+    ensures usage { IfErr result (λ e. e ≡ WordsError.Usage
+        → options_spelled (map (λ s. s.now) words.entry.now) ≡ None) }
 {
     if !all_words(words) {
         return Err(WordsError::Usage);

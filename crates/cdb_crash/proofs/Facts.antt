@@ -5,8 +5,10 @@ use Rattle.cdb_model.specs.Names.{version_folder, head_path}
 use Rattle.cdb_crash.specs.Leftovers.{IsLeftover, HasAtMost}
 use Rattle.cdb_crash.specs.Crash.{SameButHeads}
 
-pub record IsLayout {X : Type 0} (Stands : FileMap → List X → Type 0) (Complete : List X → X → FileMap → Type 0) (head_text : ℕ → List ℕ) : Type 0 where
-  pub leftovers : (P : List X) (old new : FileMap) → Stands old P → ((q : Text) → IsLeftover (length P) q ⊎ (new q ≡ old q))
+pub record IsLayout {X : Type 0} (Stands : FileMap → List X → Type 0) (Complete : List X → X → FileMap → Type 0)
+    (head_text : ℕ → List ℕ) : Type 0 where
+  pub leftovers : (P : List X) (old new : FileMap) → Stands old P
+      → ((q : Text) → IsLeftover (length P) q ⊎ (new q ≡ old q))
       → HasAtMost 65536 (length P + 1) new → Stands new P
   pub count : (P : List X) (m : FileMap) → Stands m P → length P ≤ 4096
   pub limit : (P : List X) (m : FileMap) → Stands m P → HasAtMost 65536 (length P + 1) m

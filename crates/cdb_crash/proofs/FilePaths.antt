@@ -30,12 +30,15 @@ pub tile_isnt_record : (v : ℕ) (t : Tile) → path v t ≡ record_path v → �
 tile_isnt_record v t e = let n : 84 ≡ 77 = ap (λ (s : Text). get_or s 10 0) e in omega (arith, n)
 
 -- What has the path of a source's file is that file.
-pub file_at_source : (earlier : List (List Source)) (sources : List Source) (tiles : List Tile) (q : Text) (bytes : List ℕ) (i : ℕ)
+pub file_at_source : (earlier : List (List Source)) (sources : List Source) (tiles : List Tile) (q : Text)
+    (bytes : List ℕ) (i : ℕ)
     → IsVersionFile earlier sources tiles q bytes → q ≡ source_path (length earlier + 1) (i + 1)
     → (s : Source) × (slice_get sources i ≡ Some s) × (bytes ≡ source_text s)
-file_at_source earlier sources tiles q bytes i (IsVersionFile.of_record) e = absurd (record_isnt_source (length earlier + 1) (i + 1) e)
+file_at_source earlier sources tiles q bytes i (IsVersionFile.of_record) e =
+    absurd (record_isnt_source (length earlier + 1) (i + 1) e)
 file_at_source earlier sources tiles q bytes i (IsVersionFile.of_source j s at) e =
     let same = source_paths_tell (length earlier + 1) (j + 1) (i + 1) e in
     let P : ℕ → Type 0 = λ k. slice_get sources k ≡ Some s in
     (s, subst P (omega (arith, same)) at, refl)
-file_at_source earlier sources tiles q bytes i (IsVersionFile.of_tile t reached) e = absurd (tile_isnt_source (length earlier + 1) (i + 1) t e)
+file_at_source earlier sources tiles q bytes i (IsVersionFile.of_tile t reached) e =
+    absurd (tile_isnt_source (length earlier + 1) (i + 1) t e)

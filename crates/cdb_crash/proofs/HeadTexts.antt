@@ -17,4 +17,5 @@ some_same a b e = ap bytes_in e
     bytes_in (Some bytes) = bytes
 
 pub head_text_tells : (j k : ℕ) → j ≤ 4097 → k ≤ 4097 → head_file_text j ≡ head_file_text k → j ≡ k
-head_text_tells j k few small e = decimal_injective j k (omega (arith, few)) (omega (arith, small)) (append_cancel_right (decimal j) (decimal k) (10 ∷ []) e)
+head_text_tells j k few small e = decimal_injective j k (omega (arith, few)) (omega (arith, small))
+    (append_cancel_right (decimal j) (decimal k) (10 ∷ []) e)

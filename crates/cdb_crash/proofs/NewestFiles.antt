@@ -36,12 +36,15 @@ sources_of-append : (P Q : List (List Source)) → sources_of (P ++ Q) ≡ sourc
 sources_of-append P Q = flat_map-append (λ sources. sources) P Q
 
 -- A tile that no later publication touches has in the last version that touched it the bytes that all sources give.
-pub older_file : (bytes : BytesByReaching) (m : FileMap) (P earlier : List (List Source)) (y : List Source) (later : List (List Source)) (t : Tile) → Stands m P → P ≡ earlier ++ y ∷ later
-    → Reached (heads_of y) t → All (λ (s : Source). Reaches s.head t → ⊥) (sources_of later) → m (path (length earlier + 1) t) ≡ Some (tile_bytes (sources_of P) t)
+pub older_file : (bytes : BytesByReaching) (m : FileMap) (P earlier : List (List Source)) (y : List Source)
+    (later : List (List Source)) (t : Tile) → Stands m P → P ≡ earlier ++ y ∷ later
+    → Reached (heads_of y) t → All (λ (s : Source). Reaches s.head t → ⊥) (sources_of later)
+    → m (path (length earlier + 1) t) ≡ Some (tile_bytes (sources_of P) t)
 older_file bytes m P earlier y later t stands is reached untouched =
     let version = stands.versions earlier y later is in
     let one : earlier ++ y ∷ later ≡ (earlier ++ y ∷ []) ++ later = sym (append_assoc earlier (y ∷ []) later) in
-    version.there (path (length earlier + 1) t) (tile_bytes (sources_of (earlier ++ y ∷ [])) t) (IsVersionFile.of_tile t reached)
+    version.there (path (length earlier + 1) t) (tile_bytes (sources_of (earlier ++ y ∷ [])) t)
+    (IsVersionFile.of_tile t reached)
     ∙ ap (λ b. Some b) (sym (bytes.untouched t (sources_of (earlier ++ y ∷ [])) (sources_of later) untouched)
     ∙ ap (λ ss. tile_bytes ss t) (sym (sources_of-append (earlier ++ y ∷ []) later) ∙ ap sources_of (sym one ∙ sym is)))
 
@@ -69,7 +72,8 @@ split {A = A} (x ∷ xs) zero y e = record {
   later = xs;
   is = ap (λ z. z ∷ xs) (some_is x y e);
   size = refl;
-  rest = λ i z at. let G : ℕ → Type 0 = λ j. slice_get (x ∷ xs) j ≡ Some z in let n : suc i ≡ 0 + 1 + i = omega arith in subst G n at;
+  rest = λ i z at. let G : ℕ → Type 0 = λ j. slice_get (x ∷ xs) j ≡ Some z in
+      let n : suc i ≡ 0 + 1 + i = omega arith in subst G n at;
 }
 split {A = A} (x ∷ xs) (suc k) y e = up (split xs k y e)
   where
@@ -79,7 +83,8 @@ split {A = A} (x ∷ xs) (suc k) y e = up (split xs k y e)
       later = s.later;
       is = ap (λ t. x ∷ t) s.is;
       size = ap suc s.size;
-      rest = λ i z at. let G : ℕ → Type 0 = λ j. slice_get (x ∷ xs) j ≡ Some z in let n : suc (k + 1 + i) ≡ suc k + 1 + i = omega arith in subst G n (s.rest i z at);
+      rest = λ i z at. let G : ℕ → Type 0 = λ j. slice_get (x ∷ xs) j ≡ Some z in
+          let n : suc (k + 1 + i) ≡ suc k + 1 + i = omega arith in subst G n (s.rest i z at);
     }
 
 head_at : (z : List Source) (k : ℕ) (d : Source) → k < length z → slice_get (heads_of z) k ≡ Some (get_or z k d).head
@@ -88,36 +93,47 @@ head_at (s ∷ z) zero d l = refl
 head_at (s ∷ z) (suc k) d l = head_at z k d (omega (arith, l))
 
 -- Sources of which none reaches the tile.
-pub none_reach : (t : Tile) (z : List Source) → (Reached (heads_of z) t → ⊥) → All (λ (s : Source). Reaches s.head t → ⊥) z
-none_reach t z never k d l reaches = never (record { number = k; head = (get_or z k d).head; there = head_at z k d l; reaches = reaches })
+pub none_reach : (t : Tile) (z : List Source) → (Reached (heads_of z) t → ⊥)
+    → All (λ (s : Source). Reaches s.head t → ⊥) z
+none_reach t z never k d l reaches =
+    never (record { number = k; head = (get_or z k d).head; there = head_at z k d l; reaches = reaches })
 
-none_of_later : (t : Tile) (later : List (List Source)) → ((i : ℕ) (z : List Source) → slice_get later i ≡ Some z → Reached (heads_of z) t → ⊥)
+none_of_later : (t : Tile) (later : List (List Source))
+    → ((i : ℕ) (z : List Source) → slice_get later i ≡ Some z → Reached (heads_of z) t → ⊥)
     → All (λ (s : Source). Reaches s.head t → ⊥) (sources_of later)
 none_of_later t [] never = λ k d l. absurd (omega (arith, l))
-none_of_later t (z ∷ later) never = All-append (λ (s : Source). Reaches s.head t → ⊥) z (sources_of later) (none_reach t z (never 0 z refl)) (none_of_later t later (λ i y at. never (suc i) y at))
+none_of_later t (z ∷ later) never = All-append (λ (s : Source). Reaches s.head t → ⊥) z (sources_of later)
+    (none_reach t z (never 0 z refl)) (none_of_later t later (λ i y at. never (suc i) y at))
 
 -- In an earlier version that touches it, where no later one does.
-pub newest_before : (bytes : BytesByReaching) (m : FileMap) (lists : List (List Tile)) (P : List (List Source)) (t : Tile) (k : ℕ) (tiles : List Tile) → Stands m P → AreTouched lists P
-    → slice_get lists k ≡ Some tiles → Contains tiles t → ((j : ℕ) (later : List Tile) → k < j → slice_get lists j ≡ Some later → Contains later t → ⊥)
+pub newest_before : (bytes : BytesByReaching) (m : FileMap) (lists : List (List Tile)) (P : List (List Source))
+    (t : Tile) (k : ℕ) (tiles : List Tile) → Stands m P → AreTouched lists P
+    → slice_get lists k ≡ Some tiles → Contains tiles t
+    → ((j : ℕ) (later : List Tile) → k < j → slice_get lists j ≡ Some later → Contains later t → ⊥)
     → m (path (k + 1) t) ≡ Some (tile_bytes (sources_of P) t)
 newest_before bytes m lists P t k tiles stands are at has later =
     let y = some_at P k (omega (arith, in_range lists k tiles at, are.count)) in
     let s = split P k (y.0) (y.1) in
     let M : ℕ → Type 0 = λ n. m (path (n + 1) t) ≡ Some (tile_bytes (sources_of P) t) in
-    subst M s.size (older_file bytes m P s.earlier (y.0) s.later t stands s.is (((are.each k tiles (y.0) at (y.1)).exact t).0 has) (none_of_later t s.later (unreached s)))
+    subst M s.size
+    (older_file bytes m P s.earlier (y.0) s.later t stands s.is (((are.each k tiles (y.0) at (y.1)).exact t).0 has)
+    (none_of_later t s.later (unreached s)))
   where
-    unreached : {y : List Source} (s : Split P k y) (i : ℕ) (z : List Source) → slice_get s.later i ≡ Some z → Reached (heads_of z) t → ⊥
+    unreached : {y : List Source} (s : Split P k y) (i : ℕ) (z : List Source) → slice_get s.later i ≡ Some z
+        → Reached (heads_of z) t → ⊥
     unreached s i z there reached =
         let place = s.rest i z there in
         let q = some_at lists (k + 1 + i) (omega (arith, in_range P (k + 1 + i) z place, are.count)) in
         later (k + 1 + i) (q.0) (omega arith) (q.1) (((are.each (k + 1 + i) (q.0) z (q.1) place).exact t).1 reached)
 
 -- A publication that doesn't reach a tile leaves its bytes.
-pub same_after : (bytes : BytesByReaching) (P : List (List Source)) (x : List Source) (t : Tile) → (Reached (heads_of x) t → ⊥) → tile_bytes (sources_of P) t ≡ tile_bytes (sources_of P ++ x) t
+pub same_after : (bytes : BytesByReaching) (P : List (List Source)) (x : List Source) (t : Tile)
+    → (Reached (heads_of x) t → ⊥) → tile_bytes (sources_of P) t ≡ tile_bytes (sources_of P ++ x) t
 same_after bytes P x t never = sym (bytes.untouched t (sources_of P) x (none_reach t x never))
 
 -- No source reaches a tile that no version touches.
-pub none_before : (lists : List (List Tile)) (P : List (List Source)) (t : Tile) → AreTouched lists P → ((j : ℕ) (tiles : List Tile) → slice_get lists j ≡ Some tiles → Contains tiles t → ⊥)
+pub none_before : (lists : List (List Tile)) (P : List (List Source)) (t : Tile) → AreTouched lists P
+    → ((j : ℕ) (tiles : List Tile) → slice_get lists j ≡ Some tiles → Contains tiles t → ⊥)
     → All (λ (s : Source). Reaches s.head t → ⊥) (sources_of P)
 none_before lists P t are never =
     none_of_later t P (λ i z there reached.
@@ -125,10 +141,19 @@ none_before lists P t are never =
     never i (q.0) (q.1) (((are.each i (q.0) z (q.1) there).exact t).1 reached))
 
 -- In this version, once its step is made.
-pub newest_own : (P : List (List Source)) (x : List Source) (tiles : List Tile) → ArePublications (P ++ x ∷ []) → IsTouched (heads_of x) tiles → (number i : ℕ) (s : State) (t : Tile)
-    → IsMidAfter P x tiles number s → slice_get tiles i ≡ Some t → length x + i < number → s.present (path (length P + 1) t) ≡ Some (tile_bytes (sources_of (P ++ x ∷ [])) t)
+pub newest_own : (P : List (List Source)) (x : List Source) (tiles : List Tile) → ArePublications (P ++ x ∷ [])
+    → IsTouched (heads_of x) tiles → (number i : ℕ) (s : State) (t : Tile)
+    → IsMidAfter P x tiles number s → slice_get tiles i ≡ Some t → length x + i < number
+    → s.present (path (length P + 1) t) ≡ Some (tile_bytes (sources_of (P ++ x ∷ [])) t)
 newest_own P x tiles list touched number i s t mid at less =
-    (plan_keeps P x tiles list touched).there (length x + i) number s (tile_file (length P + 1) (sources_of (P ++ x ∷ [])) t) mid (tile_at P x tiles i (length x + i) t refl at) less
+    (plan_keeps P x tiles list touched).there (length x + i) number s
+    (tile_file (length P + 1) (sources_of (P ++ x ∷ [])) t) mid (tile_at P x tiles i (length x + i) t refl at) less
 
 pub newest_files : BytesByReaching → NewestFiles
-newest_files bytes = record { newest_before = newest_before bytes; none_before = none_before; same_after = same_after bytes; newest_own = newest_own }
+newest_files bytes =
+    record {
+      newest_before = newest_before bytes;
+      none_before = none_before;
+      same_after = same_after bytes;
+      newest_own = newest_own;
+    }

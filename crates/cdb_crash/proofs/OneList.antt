@@ -33,9 +33,12 @@ none_source {A = A} a e = let P : Option A → Type 0 = Gone in subst P e tt
     Gone (Some x) = ⊥
 
 -- A source of one publication is the source of the other at its number.
-source_of_other : (m : FileMap) (earlier : List (List Source)) (xs ys : List Source) → HasVersion m earlier xs → HasVersion m earlier ys
+source_of_other : (m : FileMap) (earlier : List (List Source)) (xs ys : List Source) → HasVersion m earlier xs
+    → HasVersion m earlier ys
     → (i : ℕ) (s : Source) → slice_get xs i ≡ Some s → slice_get ys i ≡ Some s
-source_of_other m earlier xs ys a b i s at = found (b.only (source_path (length earlier + 1) (i + 1)) under (let T : Content → Type 0 = IsThere in subst T (sym has) tt))
+source_of_other m earlier xs ys a b i s at =
+    found (b.only (source_path (length earlier + 1) (i + 1)) under
+    (let T : Content → Type 0 = IsThere in subst T (sym has) tt))
   where
     has : m (source_path (length earlier + 1) (i + 1)) ≡ Some (source_text s)
     has = a.there _ _ (IsVersionFile.of_source i s at)
@@ -43,11 +46,15 @@ source_of_other m earlier xs ys a b i s at = found (b.only (source_path (length 
     under : IsOfVersion (length earlier + 1) (source_path (length earlier + 1) (i + 1))
     under = file_under earlier xs a.tiles _ _ (IsVersionFile.of_source i s at)
 
-    found : (bytes : List ℕ) × IsVersionFile earlier ys b.tiles (source_path (length earlier + 1) (i + 1)) bytes → slice_get ys i ≡ Some s
-    found (bytes, file) = of (file_at_source earlier ys b.tiles (source_path (length earlier + 1) (i + 1)) bytes i file refl)
+    found : (bytes : List ℕ) × IsVersionFile earlier ys b.tiles (source_path (length earlier + 1) (i + 1)) bytes
+        → slice_get ys i ≡ Some s
+    found (bytes, file) =
+        of (file_at_source earlier ys b.tiles (source_path (length earlier + 1) (i + 1)) bytes i file refl)
       where
         of : (t : Source) × (slice_get ys i ≡ Some t) × (bytes ≡ source_text t) → slice_get ys i ≡ Some s
-        of (t, at_i, is) = at_i ∙ ap (λ x. Some x) (sources_tell t s (sym is ∙ some_same bytes (source_text s) (sym (b.there _ bytes file) ∙ has)))
+        of (t, at_i, is) = at_i
+            ∙ ap (λ x. Some x)
+            (sources_tell t s (sym is ∙ some_same bytes (source_text s) (sym (b.there _ bytes file) ∙ has)))
 
 -- Lists with the same elements at the same places.
 same_elements : {A : Type 0} (xs ys : List A) → ((i : ℕ) (s : A) → slice_get xs i ≡ Some s → slice_get ys i ≡ Some s)
@@ -60,13 +67,17 @@ same_elements (x ∷ xs) (y ∷ ys) f g =
     let rest = same_elements xs ys (λ i s e. f (suc i) s e) (λ i s e. g (suc i) s e) in
     λ i. first i ∷ rest i
 
-pub same_publication : (m : FileMap) (earlier : List (List Source)) (xs ys : List Source) → HasVersion m earlier xs → HasVersion m earlier ys → xs ≡ ys
-same_publication m earlier xs ys a b = same_elements xs ys (source_of_other m earlier xs ys a b) (source_of_other m earlier ys xs b a)
+pub same_publication : (m : FileMap) (earlier : List (List Source)) (xs ys : List Source) → HasVersion m earlier xs
+    → HasVersion m earlier ys → xs ≡ ys
+same_publication m earlier xs ys a b = same_elements xs ys (source_of_other m earlier xs ys a b)
+    (source_of_other m earlier ys xs b a)
 
 Versions : FileMap → List (List Source) → Type 0
-Versions m list = (earlier : List (List Source)) (sources : List Source) (later : List (List Source)) → list ≡ earlier ++ sources ∷ later → HasVersion m earlier sources
+Versions m list = (earlier : List (List Source)) (sources : List Source) (later : List (List Source))
+    → list ≡ earlier ++ sources ∷ later → HasVersion m earlier sources
 
-same_publications : (m : FileMap) (done P Q : List (List Source)) → length P ≡ length Q → Versions m (done ++ P) → Versions m (done ++ Q) → P ≡ Q
+same_publications : (m : FileMap) (done P Q : List (List Source)) → length P ≡ length Q → Versions m (done ++ P)
+    → Versions m (done ++ Q) → P ≡ Q
 unfolding Versions
 same_publications m done [] [] len a b = refl
 same_publications m done [] (y ∷ Q) len a b = absurd (omega (arith, len))
@@ -81,18 +92,24 @@ same_publications m done (x ∷ P) (y ∷ Q) len a b =
     later z R h = let V : List (List Source) → Type 0 = Versions m in subst V (sym (append_assoc done (z ∷ []) R)) h
 
     moved : (z : List Source) → x ≡ z → Versions m (done ++ z ∷ Q) → Versions m ((done ++ x ∷ []) ++ Q)
-    moved z e h = let V : List Source → Type 0 = λ w. Versions m ((done ++ w ∷ []) ++ Q) in subst V (sym e) (later z Q h)
+    moved z e h = let V : List Source → Type 0 = λ w. Versions m ((done ++ w ∷ []) ++ Q) in
+        subst V (sym e) (later z Q h)
 
     both : P ≡ Q → x ∷ P ≡ y ∷ Q
     both rest i = first i ∷ rest i
 
 pub one_list : OneList Stands
 unfolding Versions
-one_list m P Q a b = same_publications m [] P Q (lengths P Q a.publications.few b.publications.few (sym a.head ∙ b.head)) (λ earlier sources later is. a.versions earlier sources later is) (λ earlier sources later is. b.versions earlier sources later is)
+one_list m P Q a b =
+    same_publications m [] P Q (lengths P Q a.publications.few b.publications.few (sym a.head ∙ b.head))
+    (λ earlier sources later is. a.versions earlier sources later is)
+    (λ earlier sources later is. b.versions earlier sources later is)
   where
-    lengths : (P Q : List (List Source)) → length P ≤ 4096 → length Q ≤ 4096 → head_content P ≡ head_content Q → length P ≡ length Q
+    lengths : (P Q : List (List Source)) → length P ≤ 4096 → length Q ≤ 4096 → head_content P ≡ head_content Q
+        → length P ≡ length Q
     lengths [] [] f g e = refl
     lengths [] (y ∷ Q) f g e = absurd (gap (head_file_text (length (y ∷ Q))) e)
     lengths (x ∷ P) [] f g e = absurd (gap (head_file_text (length (x ∷ P))) (sym e))
-    lengths (x ∷ P) (y ∷ Q) f g e = head_text_tells (length (x ∷ P)) (length (y ∷ Q)) (omega (arith, f)) (omega (arith, g))
+    lengths (x ∷ P) (y ∷ Q) f g e = head_text_tells (length (x ∷ P)) (length (y ∷ Q)) (omega (arith, f))
+        (omega (arith, g))
         (some_same (head_file_text (length (x ∷ P))) (head_file_text (length (y ∷ Q))) e)

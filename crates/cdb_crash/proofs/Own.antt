@@ -47,7 +47,8 @@ pub folder_calls : FolderCalls
 folder_calls = calls.folder_calls
 
 pub leftover_calls : LeftoverCalls Stands
-leftover_calls = λ P path s here leftover room. calls.path_calls (λ m. Stands m P) path s (stands_but Stands HasNext head_file_text store_layout P s path here room leftover)
+leftover_calls = λ P path s here leftover room. calls.path_calls (λ m. Stands m P) path s
+    (stands_but Stands HasNext head_file_text store_layout P s path here room leftover)
 
 pub room : Room Stands
 room = record {
@@ -67,12 +68,16 @@ folder_step = steps.folder_step Stands HasNext head_file_text store_layout
 
 pub record_step : RecordStep Stands
 record_step = λ P files synced s path bytes here mid few under fresh.
-    steps.folder_step Stands HasNext head_file_text store_layout P (put files path (Some bytes)) synced (after_write (folder_above path) path bytes s) (folder_above path)
-    (calls.write-here (folder_above path) path bytes s here) (write_step Stands HasNext head_file_text store_layout P files synced s (folder_above path) path bytes here mid few under fresh)
+    steps.folder_step Stands HasNext head_file_text store_layout P (put files path (Some bytes)) synced
+    (after_write (folder_above path) path bytes s) (folder_above path)
+    (calls.write-here (folder_above path) path bytes s here)
+    (write_step Stands HasNext head_file_text store_layout P files synced s (folder_above path) path bytes here mid
+    few under fresh)
 
 pub ready_step : ReadyStep Stands HasNext
 ready_step = λ P x files synced s here mid few all complete.
-    steps.ready_step Stands HasNext head_file_text store_layout P x files synced s here mid few all (λ m same. next_local P x files m complete same)
+    steps.ready_step Stands HasNext head_file_text store_layout P x files synced s here mid few all
+    (λ m same. next_local P x files m complete same)
 
 pub head_step : HeadStep Stands HasNext head_file_text
 head_step = heads.head_step Stands HasNext head_file_text store_layout
@@ -87,7 +92,11 @@ pub every_list : EveryList
 every_list = runs.every_list
 
 pub whole_stays : WholeStays Stands
-whole_stays = record { synced = whole_synced Stands HasNext head_file_text store_layout; new_head = whole_without_new_head Stands HasNext head_file_text store_layout }
+whole_stays =
+    record {
+      synced = whole_synced Stands HasNext head_file_text store_layout;
+      new_head = whole_without_new_head Stands HasNext head_file_text store_layout;
+    }
 
 pub clearing : Clearing Stands
 clearing = record {
@@ -97,10 +106,19 @@ clearing = record {
 }
 
 pub after_fault : AfterFault Stands
-after_fault = record { old = barrier_old Stands HasNext head_file_text store_layout; new = barrier_new Stands HasNext head_file_text store_layout }
+after_fault =
+    record {
+      old = barrier_old Stands HasNext head_file_text store_layout;
+      new = barrier_new Stands HasNext head_file_text store_layout;
+    }
 
 pub after_stop : AfterStop Stands
-after_stop = record { alone = whole_alone Stands; again = λ P s m new whole image alone. whole_alone Stands P m new (whole.stands m image) alone }
+after_stop =
+    record {
+      alone = whole_alone Stands;
+      again = λ P s m new whole image alone. whole_alone Stands P m new
+          (whole.stands m image) alone;
+    }
 
 pub step_numbers : StepNumbers
 step_numbers = numbers

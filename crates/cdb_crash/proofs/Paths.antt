@@ -25,7 +25,8 @@ is_under-IsUnder version path under =
 
 starts_back : (prefix rest : Text) → starts_with nat_eq (prefix ++ rest) prefix ≡ true
 starts_back [] rest = refl
-starts_back (c ∷ prefix) rest = and_from (nat_eq c c) (starts_with nat_eq (prefix ++ rest) prefix) (eq-eqb c c refl) (starts_back prefix rest)
+starts_back (c ∷ prefix) rest = and_from (nat_eq c c) (starts_with nat_eq (prefix ++ rest) prefix) (eq-eqb c c refl)
+    (starts_back prefix rest)
 
 pub under_folder : (version : ℕ) (rest : Text) → IsOfVersion version (folder_prefix (version_folder version) ++ rest)
 unfolding is_under
@@ -35,10 +36,12 @@ pub versions_apart : (j k : ℕ) (path : Text) → IsOfVersion j path → IsOfVe
 versions_apart j k path a b = folders_apart j k path (is_under-IsUnder j path a) (is_under-IsUnder k path b)
 
 pub not_head : (k : ℕ) (path : Text) → IsOfVersion k path → path ≢ head_path
-not_head k path under e = let P : Text → Type 0 = IsUnder (version_folder k) in head_apart k (subst P e (is_under-IsUnder k path under))
+not_head k path under e = let P : Text → Type 0 = IsUnder (version_folder k) in
+    head_apart k (subst P e (is_under-IsUnder k path under))
 
 pub not_new_head : (k : ℕ) (path : Text) → IsOfVersion k path → path ≢ new_head_path
-not_new_head k path under e = let P : Text → Type 0 = IsUnder (version_folder k) in new_head_apart k (subst P e (is_under-IsUnder k path under))
+not_new_head k path under e = let P : Text → Type 0 = IsUnder (version_folder k) in
+    new_head_apart k (subst P e (is_under-IsUnder k path under))
 
 -- ---- lists of paths
 -- The path stands in a list of paths.
@@ -86,9 +89,11 @@ without (first ∷ rest) path (inr among) = with_first (without rest path among)
         other q (inl same) ne = inl same
         other q (inr a) ne = inr (w.others q a ne)
 
-pub one_less : (count : ℕ) (Such Fewer : Text → Type 0) (path : Text) → Such path → ((q : Text) → Fewer q → Such q × (q ≢ path))
+pub one_less : (count : ℕ) (Such Fewer : Text → Type 0) (path : Text) → Such path
+    → ((q : Text) → Fewer q → Such q × (q ≢ path))
     → AtMost count Such → AtMost (count - 1) Fewer
-one_less count Such Fewer path such fewer most = of (without most.paths path (to_among most.paths path (most.all path such)))
+one_less count Such Fewer path such fewer most =
+    of (without most.paths path (to_among most.paths path (most.all path such)))
   where
     of : (rest : List Text) × IsWithout most.paths path rest → AtMost (count - 1) Fewer
     of (rest, w) = record {
@@ -98,12 +103,16 @@ one_less count Such Fewer path such fewer most = of (without most.paths path (to
     }
 
 -- Fewer paths are such, or more are allowed.
-pub at_most-wider : (count more : ℕ) (Such Fewer : Text → Type 0) → count ≤ more → ((q : Text) → Fewer q → Such q) → AtMost count Such → AtMost more Fewer
-at_most-wider count more Such Fewer le narrower most = record { paths = most.paths; few = omega (arith, le, most.few); all = λ q f. most.all q (narrower q f) }
+pub at_most-wider : (count more : ℕ) (Such Fewer : Text → Type 0) → count ≤ more → ((q : Text) → Fewer q → Such q)
+    → AtMost count Such → AtMost more Fewer
+at_most-wider count more Such Fewer le narrower most =
+    record { paths = most.paths; few = omega (arith, le, most.few); all = λ q f. most.all q (narrower q f) }
 
 -- One path more.
-pub at_most-with : (count : ℕ) (Such Wider : Text → Type 0) (path : Text) → ((q : Text) → Wider q → Such q ⊎ (q ≡ path)) → AtMost count Such → AtMost (count + 1) Wider
-at_most-with count Such Wider path wider most = record { paths = path ∷ most.paths; few = omega (arith, most.few); all = λ q w. of q (wider q w) }
+pub at_most-with : (count : ℕ) (Such Wider : Text → Type 0) (path : Text) → ((q : Text) → Wider q → Such q ⊎ (q ≡ path))
+    → AtMost count Such → AtMost (count + 1) Wider
+at_most-with count Such Wider path wider most =
+    record { paths = path ∷ most.paths; few = omega (arith, most.few); all = λ q w. of q (wider q w) }
   where
     of : (q : Text) → Such q ⊎ (q ≡ path) → Contains (path ∷ most.paths) q
     of q (inl s) = later (most.all q s)
@@ -117,5 +126,7 @@ pub at_most-none : (count : ℕ) (Such : Text → Type 0) → ((q : Text) → Su
 at_most-none count Such none = record { paths = []; few = omega arith; all = λ q s. absurd (none q s) }
 
 -- One path alone is such.
-pub at_most-one : (count : ℕ) (Such : Text → Type 0) (path : Text) → 1 ≤ count → ((q : Text) → Such q → q ≡ path) → AtMost count Such
-at_most-one count Such path le one = record { paths = path ∷ []; few = omega (arith, le); all = λ q s. (0, omega arith, sym (one q s)) }
+pub at_most-one : (count : ℕ) (Such : Text → Type 0) (path : Text) → 1 ≤ count → ((q : Text) → Such q → q ≡ path)
+    → AtMost count Such
+at_most-one count Such path le one =
+    record { paths = path ∷ []; few = omega (arith, le); all = λ q s. (0, omega arith, sym (one q s)) }

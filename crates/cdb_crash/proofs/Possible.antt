@@ -10,13 +10,15 @@ use Rattle.cdb_files.specs.Moments.{IsBetween}
 use Rattle.cdb_files.specs.Whole.{IsImageBut}
 
 -- ---- a synced folder
-pub kept-allowed : (now : Content) (may : Possible) → Allows may now → (v : Content) → Allows (after_sync now may) v → Allows may v
+pub kept-allowed : (now : Content) (may : Possible) → Allows may now → (v : Content)
+    → Allows (after_sync now may) v → Allows may v
 kept-allowed now (Some xs) here v (inl e) = let P : Content → Type 0 = Allows (Some xs) in subst P (sym e) here
 kept-allowed now (Some xs) here v (inr e) = absurd e
 kept-allowed None None here v a = tt
 kept-allowed (Some bytes) None here v a = tt
 
-pub kept-settled : (now : Content) (may : Possible) → may ≢ None → (v : Content) → Allows (after_sync now may) v → v ≡ now
+pub kept-settled : (now : Content) (may : Possible) → may ≢ None → (v : Content)
+    → Allows (after_sync now may) v → v ≡ now
 kept-settled now (Some xs) listed v (inl e) = e
 kept-settled now (Some xs) listed v (inr e) = absurd e
 kept-settled now None listed v a = absurd (listed refl)
@@ -28,7 +30,8 @@ kept-none None None gone v (inl e) = e
 kept-none None None gone v (inr e) = absurd e
 kept-none (Some bytes) None gone v a = absurd (let P : Content → Type 0 = IsThere in subst P gone tt)
 
-pub sync_dir-allowed : (folder : Text) (s : State) → IsImage s s.present → (q : Text) (v : Content) → Allows ((after_sync_dir folder s).may q) v → Allows (s.may q) v
+pub sync_dir-allowed : (folder : Text) (s : State) → IsImage s s.present → (q : Text) (v : Content)
+    → Allows ((after_sync_dir folder s).may q) v → Allows (s.may q) v
 unfolding after_sync_dir
 sync_dir-allowed folder s here q v a = cases (bytes_eq (folder_above q) folder) a
   where
@@ -36,19 +39,23 @@ sync_dir-allowed folder s here q v a = cases (bytes_eq (folder_above q) folder) 
     cases true a = kept-allowed (s.present q) (s.may q) (here q) v a
     cases false a = a
 
-pub sync_dir-kept : (folder : Text) (s : State) (q : Text) → bytes_eq (folder_above q) folder ≡ true → (after_sync_dir folder s).may q ≡ after_sync (s.present q) (s.may q)
+pub sync_dir-kept : (folder : Text) (s : State) (q : Text) → bytes_eq (folder_above q) folder ≡ true
+    → (after_sync_dir folder s).may q ≡ after_sync (s.present q) (s.may q)
 unfolding after_sync_dir
-sync_dir-kept folder s q e = cond-true (bytes_eq (folder_above q) folder) (after_sync (s.present q) (s.may q)) (s.may q) e
+sync_dir-kept folder s q e = cond-true (bytes_eq (folder_above q) folder)
+    (after_sync (s.present q) (s.may q)) (s.may q) e
 
 pub sync_dir-present : (folder : Text) (s : State) → (after_sync_dir folder s).present ≡ s.present
 unfolding after_sync_dir
 sync_dir-present folder s = refl
 
 -- What a crash leaves inside and after the sync of a folder, it might leave before.
-pub sync_dir-image : (folder : Text) (s : State) → IsImage s s.present → (m : FileMap) → IsImage (after_sync_dir folder s) m → IsImage s m
+pub sync_dir-image : (folder : Text) (s : State) → IsImage s s.present → (m : FileMap)
+    → IsImage (after_sync_dir folder s) m → IsImage s m
 sync_dir-image folder s here m image q = sync_dir-allowed folder s here q (m q) (image q)
 
-pub sync_dir-between : (folder : Text) (s : State) → IsImage s s.present → (m : FileMap) → IsBetween s (after_sync_dir folder s) m → IsImage s m
+pub sync_dir-between : (folder : Text) (s : State) → IsImage s s.present → (m : FileMap)
+    → IsBetween s (after_sync_dir folder s) m → IsImage s m
 sync_dir-between folder s here m between q = of (between q)
   where
     of : Allows (s.may q) (m q) ⊎ Allows ((after_sync_dir folder s).may q) (m q) → Allows (s.may q) (m q)
@@ -93,7 +100,8 @@ added-listed w (Some xs) listed e = listed (absurd (let P : Possible → Type 0 
 
 -- ---- images
 -- An image but at one path, with something at that path which a crash may leave there.
-pub image_put : (s : State) (m : FileMap) (p : Text) (v : Content) → IsImageBut p s m → Allows (s.may p) v → IsImage s (put m p v)
+pub image_put : (s : State) (m : FileMap) (p : Text) (v : Content) → IsImageBut p s m → Allows (s.may p) v
+    → IsImage s (put m p v)
 image_put s m p v but a q = of (same_text q p)
   where
     of : (q ≡ p) ⊎ (q ≢ p) → Allows (s.may q) (put m p v q)

@@ -21,15 +21,18 @@ use Rattle.cdb_crash.proofs.RunLaws.{sync_dir-here}
 use Rattle.cdb_crash.proofs.Steps.{whole_synced}
 use Rattle.cdb_crash.proofs.StoreLaws.{store_layout}
 
-removal-here : (path : Text) (s : State) → IsImage s s.present → IsImage (after_removal path s) (after_removal path s).present
+removal-here : (path : Text) (s : State) → IsImage s s.present
+    → IsImage (after_removal path s) (after_removal path s).present
 removal-here path s here = sync_dir-here (folder_above path) (after_remove path s) (removed-here path s here)
 
 -- ---- after the barrier
 barrier-here : (s : State) → IsImage s s.present → IsImage (after_barrier s) (after_barrier s).present
 barrier-here s here = removed-here new_head_path (after_sync_dir [] s) (sync_dir-here [] s here)
 
-barrier_clearing : (P : List (List Source)) (s : State) → IsImage s s.present → IsWhole Stands P s → IsClearing Stands P 65536 (after_barrier s)
-barrier_clearing P s here whole = from_whole Stands HasNext head_file_text store_layout P (after_barrier s) (barrier-here s here)
+barrier_clearing : (P : List (List Source)) (s : State) → IsImage s s.present → IsWhole Stands P s
+    → IsClearing Stands P 65536 (after_barrier s)
+barrier_clearing P s here whole = from_whole Stands HasNext head_file_text store_layout P (after_barrier s)
+    (barrier-here s here)
     (whole_without_new_head Stands HasNext head_file_text store_layout P (after_sync_dir [] s) (sync_dir-here [] s here)
     (whole_synced Stands HasNext head_file_text store_layout P s [] here whole))
 
@@ -44,7 +47,8 @@ record Cleared (P : List (List Source)) (count : ℕ) (paths : List Text) (s : S
   pub clearing : IsClearing Stands P (count - length paths) (after_removals paths s)
   pub bounded : length paths ≤ count
 
-run : (P : List (List Source)) (count : ℕ) (paths : List Text) (s : State) → count ≤ 65536 → IsImage s s.present → IsClearing Stands P count s
+run : (P : List (List Source)) (count : ℕ) (paths : List Text) (s : State) → count ≤ 65536 → IsImage s s.present
+    → IsClearing Stands P count s
     → AreLeft (length P + 1) paths s → Cleared P count paths s
 run P count [] s le here clearing left =
     let C : ℕ → Type 0 = λ n. IsClearing Stands P n s in
@@ -82,48 +86,66 @@ leaves_none P (path ∷ all) s among = cases (is_under (version_folder (length P
     at : (q : Text) → (after_removal path s).present q ≡ (after_remove path s).present q
     at q = ap (λ m. m q) (sync_dir-present (folder_above path) (after_remove path s))
 
-    skip : ((q : Text) → IsOfVersion (length P + 1) q → IsThere (s.present q) → q ≢ path) → (q : Text) → IsOfVersion (length P + 1) q → IsThere (s.present q) → Some_of (λ p. q ≡ p) all
+    skip : ((q : Text) → IsOfVersion (length P + 1) q → IsThere (s.present q) → q ≢ path) → (q : Text)
+        → IsOfVersion (length P + 1) q → IsThere (s.present q) → Some_of (λ p. q ≡ p) all
     skip other q under there = of (among q under there)
       where
         of : (q ≡ path) ⊎ Some_of (λ p. q ≡ p) all → Some_of (λ p. q ≡ p) all
         of (inl e) = absurd (other q under there e)
         of (inr a) = a
 
-    removed : (q : Text) → IsOfVersion (length P + 1) q → IsThere ((after_removal path s).present q) → Some_of (λ p. q ≡ p) all
+    removed : (q : Text) → IsOfVersion (length P + 1) q → IsThere ((after_removal path s).present q)
+        → Some_of (λ p. q ≡ p) all
     removed q under there = of (same_text q path)
       where
         gone : q ≡ path → ⊥
-        gone e = let T : Content → Type 0 = IsThere in subst T (at q ∙ ap (λ t. (after_remove path s).present t) e ∙ removed-at path s) there
+        gone e = let T : Content → Type 0 = IsThere in
+            subst T (at q ∙ ap (λ t. (after_remove path s).present t) e ∙ removed-at path s) there
 
         of : (q ≡ path) ⊎ (q ≢ path) → Some_of (λ p. q ≡ p) all
         of (inl e) = absurd (gone e)
-        of (inr ne) = in_rest (among q under (let T : Content → Type 0 = IsThere in subst T (at q ∙ removed-present path s q ne) there))
+        of (inr ne) =
+            in_rest (among q under (let T : Content → Type 0 = IsThere in
+            subst T (at q ∙ removed-present path s q ne) there))
           where
             in_rest : (q ≡ path) ⊎ Some_of (λ p. q ≡ p) all → Some_of (λ p. q ≡ p) all
             in_rest (inl e) = absurd (ne e)
             in_rest (inr a) = a
 
-    first : IsOfVersion (length P + 1) path → IsThere (s.present path) → LeavesNone P (after_removal path s) → LeavesNone P s
+    first : IsOfVersion (length P + 1) path → IsThere (s.present path) → LeavesNone P (after_removal path s)
+        → LeavesNone P s
     first under there rest = record { paths = path ∷ rest.paths; left = (under, there, rest.left); none = rest.none }
 
     cases : (b : Bool) → is_under (version_folder (length P + 1)) path ≡ b → (c : Content) → s.present path ≡ c
-        → (((q : Text) → IsOfVersion (length P + 1) q → IsThere (s.present q) → Some_of (λ p. q ≡ p) all) → LeavesNone P s)
-        → (((q : Text) → IsOfVersion (length P + 1) q → IsThere ((after_removal path s).present q) → Some_of (λ p. q ≡ p) all) → LeavesNone P (after_removal path s))
+        → (((q : Text) → IsOfVersion (length P + 1) q → IsThere (s.present q) → Some_of (λ p. q ≡ p) all)
+        → LeavesNone P s)
+        → (((q : Text) → IsOfVersion (length P + 1) q → IsThere ((after_removal path s).present q)
+        → Some_of (λ p. q ≡ p) all) → LeavesNone P (after_removal path s))
         → LeavesNone P s
-    cases false e c f same other = same (skip (λ q under there is. true≢false (sym under ∙ ap (is_under (version_folder (length P + 1))) is ∙ e)))
-    cases true e None f same other = same (skip (λ q under there is. let T : Content → Type 0 = IsThere in subst T (ap s.present is ∙ f) there))
-    cases true e (Some bytes) f same other = first e (let T : Content → Type 0 = IsThere in subst T (sym f) tt) (other removed)
+    cases false e c f same other =
+        same (skip (λ q under there is. true≢false (sym under ∙ ap (is_under (version_folder (length P + 1))) is ∙ e)))
+    cases true e None f same other =
+        same (skip (λ q under there is. let T : Content → Type 0 = IsThere in subst T (ap s.present is ∙ f) there))
+    cases true e (Some bytes) f same other = first e (let T : Content → Type 0 = IsThere in subst T (sym f) tt)
+        (other removed)
 
 pub recovers : Recovers
 recovers = record {
   ends = λ P s paths here whole left none.
-      at_last Stands HasNext head_file_text store_layout P (65536 - length paths) (after_removals paths (after_barrier s))
-      (run P 65536 paths (after_barrier s) (omega arith) (barrier-here s here) (barrier_clearing P s here whole) left).clearing none;
-  bounded = λ P s paths here whole left. (run P 65536 paths (after_barrier s) (omega arith) (barrier-here s here) (barrier_clearing P s here whole) left).bounded;
+      at_last Stands HasNext head_file_text store_layout P (65536 - length paths)
+      (after_removals paths (after_barrier s))
+      (run P 65536 paths (after_barrier s) (omega arith) (barrier-here s here) (barrier_clearing P s here whole)
+      left).clearing none;
+  bounded =
+      λ P s paths here whole left.
+      (run P 65536 paths (after_barrier s) (omega arith) (barrier-here s here)
+      (barrier_clearing P s here whole) left).bounded;
   some = λ P s here whole. of P s (leaves_none P (barrier_clearing P s here whole).few.paths (after_barrier s)
-      (λ q under there. some_contained (barrier_clearing P s here whole).few.paths q ((barrier_clearing P s here whole).few.all q (under, there))));
+      (λ q under there. some_contained (barrier_clearing P s here whole).few.paths q
+      ((barrier_clearing P s here whole).few.all q (under, there))));
 }
   where
     of : (P : List (List Source)) (s : State) → LeavesNone P (after_barrier s)
-        → (paths : List Text) × AreLeft (length P + 1) paths (after_barrier s) × NoneUnder (after_removals paths (after_barrier s)).present (version_folder (length P + 1))
+        → (paths : List Text) × AreLeft (length P + 1) paths (after_barrier s)
+        × NoneUnder (after_removals paths (after_barrier s)).present (version_folder (length P + 1))
     of P s l = (l.paths, l.left, l.none)

@@ -28,7 +28,8 @@ kept-here now (Some xs) here = inl refl
 kept-here None None here = inl refl
 kept-here (Some bytes) None here = tt
 
-pub sync_dir-here : (folder : Text) (s : State) → IsImage s s.present → IsImage (after_sync_dir folder s) (after_sync_dir folder s).present
+pub sync_dir-here : (folder : Text) (s : State) → IsImage s s.present
+    → IsImage (after_sync_dir folder s) (after_sync_dir folder s).present
 unfolding after_sync_dir
 sync_dir-here folder s here q = cases (bytes_eq (folder_above q) folder)
   where
@@ -36,51 +37,66 @@ sync_dir-here folder s here q = cases (bytes_eq (folder_above q) folder)
     cases true = kept-here (s.present q) (s.may q) (here q)
     cases false = here q
 
-pub step-here : (step : FileAction) (s : State) → IsImage s s.present → IsImage (after_step step s) (after_step step s).present
+pub step-here : (step : FileAction) (s : State) → IsImage s s.present
+    → IsImage (after_step step s) (after_step step s).present
 step-here (FileAction.write file) s here = write-here (folder_above file.path) file.path file.bytes s here
 step-here (FileAction.sync folder) s here = sync_dir-here folder s here
 step-here (FileAction.write_and_sync file) s here =
-    sync_dir-here (folder_above file.path) (after_write (folder_above file.path) file.path file.bytes s) (write-here (folder_above file.path) file.path file.bytes s here)
+    sync_dir-here (folder_above file.path) (after_write (folder_above file.path) file.path file.bytes s)
+    (write-here (folder_above file.path) file.path file.bytes s here)
 
-pub steps-here : (steps : List FileAction) (s : State) → IsImage s s.present → IsImage (after_steps steps s) (after_steps steps s).present
+pub steps-here : (steps : List FileAction) (s : State) → IsImage s s.present
+    → IsImage (after_steps steps s) (after_steps steps s).present
 steps-here [] s here = here
 steps-here (step ∷ steps) s here = steps-here steps (after_step step s) (step-here step s here)
 
 -- ---- all steps in a row
-module _ (P : List (List Source)) (x : List Source) (tiles : List Tile) (list : ArePublications (P ++ x ∷ [])) (touched : IsTouched (heads_of x) tiles) where
-  run : (done rest : List FileAction) (s : State) → steps_of P x tiles ≡ done ++ rest → IsImage s s.present → IsMid Stands P (files_after done) (synced_after done) s
+module _ (P : List (List Source)) (x : List Source) (tiles : List Tile) (list : ArePublications (P ++ x ∷ []))
+    (touched : IsTouched (heads_of x) tiles) where
+  run : (done rest : List FileAction) (s : State) → steps_of P x tiles ≡ done ++ rest → IsImage s s.present
+      → IsMid Stands P (files_after done) (synced_after done) s
       → IsMid Stands P (files_after (steps_of P x tiles)) (synced_after (steps_of P x tiles)) (after_steps rest s)
-  run done [] s e here mid = let D : List FileAction → Type 0 = λ ds. IsMid Stands P (files_after ds) (synced_after ds) s in subst D (sym (e ∙ append_nil done)) mid
+  run done [] s e here mid = let D : List FileAction → Type 0 = λ ds. IsMid Stands P (files_after ds) (synced_after ds)
+      s in subst D (sym (e ∙ append_nil done)) mid
     where
       append_nil : (steps : List FileAction) → steps ++ [] ≡ steps
       append_nil [] = refl
       append_nil (step ∷ steps) = ap (λ t. step ∷ t) (append_nil steps)
   run done (step ∷ rest) s e here mid =
-      run (done ++ step ∷ []) rest (after_step step s) (e ∙ sym (append_assoc done (step ∷ []) rest)) (step-here step s here) (lead P x tiles list touched done step rest s e here mid)
+      run (done ++ step ∷ []) rest (after_step step s) (e ∙ sym (append_assoc done (step ∷ []) rest))
+      (step-here step s here) (lead P x tiles list touched done step rest s e here mid)
 
-  all_steps : (s : State) → IsImage s s.present → IsClean Stands P s → IsReadyForHead Stands HasNext P x (after_steps (steps_of P x tiles) s)
+  all_steps : (s : State) → IsImage s s.present → IsClean Stands P s
+      → IsReadyForHead Stands HasNext P x (after_steps (steps_of P x tiles) s)
   all_steps s here clean =
       let keeps : PlanKeeps P x tiles = plan_keeps P x tiles list touched in
       keeps.ready (after_steps (steps_of P x tiles) s) (steps-here (steps_of P x tiles) s here)
       (at_length (run [] (steps_of P x tiles) s refl here (keeps.begins s here clean)))
     where
-      at_length : IsMid Stands P (files_after (steps_of P x tiles)) (synced_after (steps_of P x tiles)) (after_steps (steps_of P x tiles) s)
+      at_length : IsMid Stands P (files_after (steps_of P x tiles)) (synced_after (steps_of P x tiles))
+          (after_steps (steps_of P x tiles) s)
           → IsMidAfter P x tiles (length (steps_of P x tiles)) (after_steps (steps_of P x tiles) s)
-      at_length mid = let D : List FileAction → Type 0 = λ ds. IsMid Stands P (files_after ds) (synced_after ds) (after_steps (steps_of P x tiles) s) in
+      at_length mid = let D : List FileAction → Type 0 = λ ds. IsMid Stands P (files_after ds) (synced_after ds)
+          (after_steps (steps_of P x tiles) s) in
           subst D (sym (take_all (length (steps_of P x tiles)) (steps_of P x tiles) (omega arith))) mid
 
 pub publishes : Publishes
 publishes P x tiles s list touched here clean =
-    (head_step Stands HasNext head_file_text store_layout P x (after_steps (steps_of P x tiles) s) (steps-here (steps_of P x tiles) s here)
+    (head_step Stands HasNext head_file_text store_layout P x (after_steps (steps_of P x tiles) s)
+    (steps-here (steps_of P x tiles) s here)
     (all_steps P x tiles list touched s here clean)).end
 
 pub published-here : (P : List (List Source)) (x : List Source) (tiles : List Tile) (s : State) → IsImage s s.present
-    → IsImage (head_synced (head_file_text (length P + 1)) (after_steps (steps_of P x tiles) s)) (head_synced (head_file_text (length P + 1)) (after_steps (steps_of P x tiles) s)).present
-published-here P x tiles s here = sync_dir-here [] (head_renamed (head_file_text (length P + 1)) (after_steps (steps_of P x tiles) s))
-    (renamed-here (head_file_text (length P + 1)) (after_steps (steps_of P x tiles) s) (steps-here (steps_of P x tiles) s here))
+    → IsImage (head_synced (head_file_text (length P + 1)) (after_steps (steps_of P x tiles) s))
+    (head_synced (head_file_text (length P + 1)) (after_steps (steps_of P x tiles) s)).present
+published-here P x tiles s here =
+    sync_dir-here [] (head_renamed (head_file_text (length P + 1)) (after_steps (steps_of P x tiles) s))
+    (renamed-here (head_file_text (length P + 1)) (after_steps (steps_of P x tiles) s)
+    (steps-here (steps_of P x tiles) s here))
 
 -- ---- all publications of a list
-index_front : (P : List (List Source)) (x : List Source) (k : ℕ) (d : List Source) → k < length P → get_or (P ++ x ∷ []) k d ≡ get_or P k d
+index_front : (P : List (List Source)) (x : List Source) (k : ℕ) (d : List Source) → k < length P
+    → get_or (P ++ x ∷ []) k d ≡ get_or P k d
 index_front [] x k d l = absurd (omega (arith, l))
 index_front (p ∷ P) x zero d l = refl
 index_front (p ∷ P) x (suc k) d l = index_front P x k d (omega (arith, l))
@@ -92,8 +108,10 @@ record EntriesFront (P : List (List Source)) (x : List Source) (count : ℕ) : T
   pub less_is : IsEntryCount P less
   pub fewer : less ≤ count
 
-entries_front : (P : List (List Source)) (x : List Source) (count : ℕ) → IsEntryCount (P ++ x ∷ []) count → EntriesFront P x count
-entries_front [] x count (tiles, rest, both) = record { tiles = tiles; touched = both.0; less = 0; less_is = refl; fewer = omega arith }
+entries_front : (P : List (List Source)) (x : List Source) (count : ℕ) → IsEntryCount (P ++ x ∷ []) count
+    → EntriesFront P x count
+entries_front [] x count (tiles, rest, both) =
+    record { tiles = tiles; touched = both.0; less = 0; less_is = refl; fewer = omega arith }
 entries_front (p ∷ P) x count (tiles, rest, both) = up (entries_front P x rest (both.1))
   where
     up : EntriesFront P x rest → EntriesFront (p ∷ P) x count
@@ -105,9 +123,11 @@ entries_front (p ∷ P) x count (tiles, rest, both) = up (entries_front P x rest
       fewer = omega (arith, front.fewer, both.2);
     }
 
-front_list : (P : List (List Source)) (x : List Source) → (list : ArePublications (P ++ x ∷ [])) → EntriesFront P x list.entries → ArePublications P
+front_list : (P : List (List Source)) (x : List Source) → (list : ArePublications (P ++ x ∷ []))
+    → EntriesFront P x list.entries → ArePublications P
 front_list P x list front = record {
-  each = λ k d l. subst IsPublication (index_front P x k d l) (list.each k d (omega (arith, l, length-append P (x ∷ []))));
+  each = λ k d l. subst IsPublication (index_front P x k d l)
+      (list.each k d (omega (arith, l, length-append P (x ∷ []))));
   few = omega (arith, list.few, length-append P (x ∷ []));
   entries = front.less;
   entries_are = front.less_is;
@@ -129,7 +149,8 @@ last_of x (y ∷ list) = up (last_of y list)
 Found : List (List Source) → Type 0
 Found list = (s : State) × IsImage s s.present × IsClean Stands list s
 
-one_more : (P : List (List Source)) (x : List Source) (list : ArePublications (P ++ x ∷ [])) → EntriesFront P x list.entries → Found P → Found (P ++ x ∷ [])
+one_more : (P : List (List Source)) (x : List Source) (list : ArePublications (P ++ x ∷ []))
+    → EntriesFront P x list.entries → Found P → Found (P ++ x ∷ [])
 unfolding Found
 one_more P x list front (s, here, clean) = (
   head_synced (head_file_text (length P + 1)) (after_steps (steps_of P x front.tiles) s),
@@ -152,7 +173,8 @@ every (suc n) (x ∷ list) len are =
     let front = entries_front l.front l.last moved.entries moved.entries_are in
     let size = ap length l.is in
     subst F (sym l.is) (one_more l.front l.last moved front
-    (every n l.front (omega (arith, len, size, length-append l.front (l.last ∷ []))) (front_list l.front l.last moved front)))
+    (every n l.front (omega (arith, len, size, length-append l.front (l.last ∷ [])))
+    (front_list l.front l.last moved front)))
 
 pub every_list : EveryList
 unfolding Found

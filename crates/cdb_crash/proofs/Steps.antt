@@ -15,23 +15,29 @@ use Rattle.cdb_crash.proofs.Possible.{sync_dir-allowed, sync_dir-image, sync_dir
 use Rattle.cdb_crash.proofs.Law.{stands_but}
 
 -- ---- a file that was written and synced
-pub write-present : (folder path : Text) (bytes : List ℕ) (s : State) → (after_write folder path bytes s).present ≡ put s.present path (Some bytes)
+pub write-present : (folder path : Text) (bytes : List ℕ) (s : State) → (after_write folder path bytes s).present
+    ≡ put s.present path (Some bytes)
 unfolding after_write after_fill after_make_dir
 write-present folder path bytes s = refl
 
-pub write-may : (folder path : Text) (bytes : List ℕ) (s : State) → (after_write folder path bytes s).may ≡ put s.may path (Some (None ∷ Some bytes ∷ []))
+pub write-may : (folder path : Text) (bytes : List ℕ) (s : State) → (after_write folder path bytes s).may
+    ≡ put s.may path (Some (None ∷ Some bytes ∷ []))
 unfolding after_write after_fill after_make_dir
 write-may folder path bytes s = refl
 
-pub write-other : (folder path : Text) (bytes : List ℕ) (s : State) (q : Text) → q ≢ path → (v : Content) → Allows ((after_write folder path bytes s).may q) v → Allows (s.may q) v
+pub write-other : (folder path : Text) (bytes : List ℕ) (s : State) (q : Text) → q ≢ path → (v : Content)
+    → Allows ((after_write folder path bytes s).may q) v → Allows (s.may q) v
 write-other folder path bytes s q ne v a =
     let P : Possible → Type 0 = λ p. Allows p v in
-    subst P (ap (λ m. m q) (write-may folder path bytes s) ∙ put-other s.may path (Some (None ∷ Some bytes ∷ [])) q ne) a
+    subst P (ap (λ m. m q) (write-may folder path bytes s) ∙ put-other s.may path (Some (None ∷ Some bytes ∷ [])) q ne)
+    a
 
-pub write-at : (folder path : Text) (bytes : List ℕ) (s : State) (q : Text) → q ≡ path → (v : Content) → Allows ((after_write folder path bytes s).may q) v → (v ≡ None) ⊎ (v ≡ Some bytes)
+pub write-at : (folder path : Text) (bytes : List ℕ) (s : State) (q : Text) → q ≡ path → (v : Content)
+    → Allows ((after_write folder path bytes s).may q) v → (v ≡ None) ⊎ (v ≡ Some bytes)
 write-at folder path bytes s q e v a =
     let P : Possible → Type 0 = λ p. Allows p v in
-    of (subst P (ap (λ t. (after_write folder path bytes s).may t) e ∙ ap (λ m. m path) (write-may folder path bytes s) ∙ put-same s.may path (Some (None ∷ Some bytes ∷ []))) a)
+    of (subst P (ap (λ t. (after_write folder path bytes s).may t) e ∙ ap (λ m. m path) (write-may folder path bytes s)
+    ∙ put-same s.may path (Some (None ∷ Some bytes ∷ []))) a)
   where
     of : (v ≡ None) ⊎ ((v ≡ Some bytes) ⊎ ⊥) → (v ≡ None) ⊎ (v ≡ Some bytes)
     of (inl g) = inl g
@@ -41,17 +47,21 @@ write-at folder path bytes s q e v a =
 put-at : (m : FileMap) (path : Text) (v : Content) (q : Text) → q ≡ path → put m path v q ≡ v
 put-at m path v q e = ap (λ t. put m path v t) e ∙ put-same m path v
 
-module _ {X : Type 0} (Stands : FileMap → List X → Type 0) (Complete : List X → X → FileMap → Type 0) (head_text : ℕ → List ℕ) (layout : IsLayout Stands Complete head_text) where
-  pub mid_room : (P : List X) (files : FileMap) (synced : Text → Bool) (s : State) (path : Text) → IsMid Stands P files synced s
+module _ {X : Type 0} (Stands : FileMap → List X → Type 0) (Complete : List X → X → FileMap → Type 0)
+    (head_text : ℕ → List ℕ) (layout : IsLayout Stands Complete head_text) where
+  pub mid_room : (P : List X) (files : FileMap) (synced : Text → Bool) (s : State) (path : Text)
+      → IsMid Stands P files synced s
       → HasAtMost 65535 (length P + 1) files → HasRoom Stands P path s
   mid_room P files synced s path mid few = record {
     stands = mid.whole.stands;
     few = at_most-wider (65535 + 1) 65536 _ _ (omega arith) (λ q w. w)
-        (at_most-with 65535 (λ q. IsOfVersion (length P + 1) q × IsThere (files q)) (λ q. IsOfVersion (length P + 1) q × (MayLast s q ⊎ (q ≡ path))) path
+        (at_most-with 65535 (λ q. IsOfVersion (length P + 1) q × IsThere (files q))
+        (λ q. IsOfVersion (length P + 1) q × (MayLast s q ⊎ (q ≡ path))) path
         (λ q w. of q (w.0) (w.1)) few);
   }
     where
-      of : (q : Text) → IsOfVersion (length P + 1) q → MayLast s q ⊎ (q ≡ path) → (IsOfVersion (length P + 1) q × IsThere (files q)) ⊎ (q ≡ path)
+      of : (q : Text) → IsOfVersion (length P + 1) q → MayLast s q ⊎ (q ≡ path)
+          → (IsOfVersion (length P + 1) q × IsThere (files q)) ⊎ (q ≡ path)
       of q under (inr e) = inr e
       of q under (inl (v, allowed, there)) = inl ((under, there_of (mid.each q under v allowed)))
         where
@@ -60,13 +70,16 @@ module _ {X : Type 0} (Stands : FileMap → List X → Type 0) (Complete : List 
           there_of (inr e) = let T : Content → Type 0 = IsThere in subst T e there
 
   -- A file that is written and synced in a folder that wasn't synced.
-  pub write_step : (P : List X) (files : FileMap) (synced : Text → Bool) (s : State) (folder path : Text) (bytes : List ℕ) → IsImage s s.present
-      → IsMid Stands P files synced s → HasAtMost 65535 (length P + 1) files → IsOfVersion (length P + 1) path → synced (folder_above path) ≡ false
+  pub write_step : (P : List X) (files : FileMap) (synced : Text → Bool) (s : State) (folder path : Text)
+      (bytes : List ℕ) → IsImage s s.present
+      → IsMid Stands P files synced s → HasAtMost 65535 (length P + 1) files → IsOfVersion (length P + 1) path
+      → synced (folder_above path) ≡ false
       → IsMid Stands P (put files path (Some bytes)) synced (after_write folder path bytes s)
   write_step P files synced s folder path bytes here mid few under fresh = record {
     whole = record {
       clear = record { gone = λ k le q of_k gone v a. clear k le q of_k gone v a (same_text q path) };
-      stands = λ m image. stands_but Stands Complete head_text layout P s path here (mid_room P files synced s path mid few) (inr under) m
+      stands = λ m image. stands_but Stands Complete head_text layout P s path here
+          (mid_room P files synced s path mid few) (inr under) m
           (λ q ne. write-other folder path bytes s q ne (m q) (image q));
     };
     present = λ q of_next. present q of_next (same_text q path);
@@ -80,18 +93,24 @@ module _ {X : Type 0} (Stands : FileMap → List X → Type 0) (Complete : List 
       at : (q : Text) → (after_write folder path bytes s).present q ≡ put s.present path (Some bytes) q
       at q = ap (λ m. m q) (write-present folder path bytes s)
 
-      clear : (k : ℕ) → k ≤ 4097 → (q : Text) → IsOfVersion k q → (after_write folder path bytes s).present q ≡ None → (v : Content)
+      clear : (k : ℕ) → k ≤ 4097 → (q : Text) → IsOfVersion k q → (after_write folder path bytes s).present q ≡ None
+          → (v : Content)
           → Allows ((after_write folder path bytes s).may q) v → (q ≡ path) ⊎ (q ≢ path) → v ≡ None
       clear k le q of_k gone v a (inl e) = let T : Content → Type 0 = IsThere in
           absurd (subst T (sym (put-at s.present path (Some bytes) q e) ∙ sym (at q) ∙ gone) tt)
       clear k le q of_k gone v a (inr ne) =
-          mid.whole.clear.gone k le q of_k (sym (put-other s.present path (Some bytes) q ne) ∙ sym (at q) ∙ gone) v (write-other folder path bytes s q ne v a)
+          mid.whole.clear.gone k le q of_k (sym (put-other s.present path (Some bytes) q ne) ∙ sym (at q) ∙ gone) v
+          (write-other folder path bytes s q ne v a)
 
-      present : (q : Text) → IsOfVersion (length P + 1) q → (q ≡ path) ⊎ (q ≢ path) → (after_write folder path bytes s).present q ≡ put files path (Some bytes) q
-      present q of_next (inl e) = at q ∙ put-at s.present path (Some bytes) q e ∙ sym (put-at files path (Some bytes) q e)
-      present q of_next (inr ne) = at q ∙ put-other s.present path (Some bytes) q ne ∙ mid.present q of_next ∙ sym (put-other files path (Some bytes) q ne)
+      present : (q : Text) → IsOfVersion (length P + 1) q → (q ≡ path) ⊎ (q ≢ path)
+          → (after_write folder path bytes s).present q ≡ put files path (Some bytes) q
+      present q of_next (inl e) = at q ∙ put-at s.present path (Some bytes) q e
+          ∙ sym (put-at files path (Some bytes) q e)
+      present q of_next (inr ne) = at q ∙ put-other s.present path (Some bytes) q ne ∙ mid.present q of_next
+          ∙ sym (put-other files path (Some bytes) q ne)
 
-      each : (q : Text) → IsOfVersion (length P + 1) q → (v : Content) → Allows ((after_write folder path bytes s).may q) v → (q ≡ path) ⊎ (q ≢ path)
+      each : (q : Text) → IsOfVersion (length P + 1) q → (v : Content)
+          → Allows ((after_write folder path bytes s).may q) v → (q ≡ path) ⊎ (q ≢ path)
           → (v ≡ None) ⊎ (v ≡ put files path (Some bytes) q)
       each q of_next v a (inl e) = of (write-at folder path bytes s q e v a)
         where
@@ -104,29 +123,38 @@ module _ {X : Type 0} (Stands : FileMap → List X → Type 0) (Complete : List 
           of (inl g) = inl g
           of (inr g) = inr (g ∙ sym (put-other files path (Some bytes) q ne))
 
-      kept : (q : Text) → IsOfVersion (length P + 1) q → IsTrue (synced (folder_above q)) → (v : Content) → Allows ((after_write folder path bytes s).may q) v
+      kept : (q : Text) → IsOfVersion (length P + 1) q → IsTrue (synced (folder_above q)) → (v : Content)
+          → Allows ((after_write folder path bytes s).may q) v
           → (q ≡ path) ⊎ (q ≢ path) → v ≡ put files path (Some bytes) q
       kept q of_next was v a (inl e) = absurd (true≢false (sym was ∙ ap (λ t. synced (folder_above t)) e ∙ fresh))
-      kept q of_next was v a (inr ne) = mid.kept q of_next was v (write-other folder path bytes s q ne v a) ∙ sym (put-other files path (Some bytes) q ne)
+      kept q of_next was v a (inr ne) = mid.kept q of_next was v (write-other folder path bytes s q ne v a)
+          ∙ sym (put-other files path (Some bytes) q ne)
 
   -- Any sync of a folder keeps a disk whole.
-  pub whole_synced : (P : List X) (s : State) (folder : Text) → IsImage s s.present → IsWhole Stands P s → IsWhole Stands P (after_sync_dir folder s)
+  pub whole_synced : (P : List X) (s : State) (folder : Text) → IsImage s s.present → IsWhole Stands P s
+      → IsWhole Stands P (after_sync_dir folder s)
   whole_synced P s folder here whole = record {
-    clear = record { gone = λ k le q of_k gone v a. whole.clear.gone k le q of_k (sym (ap (λ m. m q) (sync_dir-present folder s)) ∙ gone) v (sync_dir-allowed folder s here q v a) };
+    clear = record {
+      gone = λ k le q of_k gone v a. whole.clear.gone k le q of_k
+          (sym (ap (λ m. m q) (sync_dir-present folder s)) ∙ gone) v (sync_dir-allowed folder s here q v a);
+    };
     stands = λ m image. whole.stands m (sync_dir-image folder s here m image);
   }
 
-  pub folder_step : (P : List X) (files : FileMap) (synced : Text → Bool) (s : State) (folder : Text) → IsImage s s.present
+  pub folder_step : (P : List X) (files : FileMap) (synced : Text → Bool) (s : State) (folder : Text)
+      → IsImage s s.present
       → IsMid Stands P files synced s → IsMid Stands P files (with_folder synced folder) (after_sync_dir folder s)
   folder_step P files synced s folder here mid = record {
     whole = whole_synced P s folder here mid.whole;
     present = λ q of_next. ap (λ m. m q) (sync_dir-present folder s) ∙ mid.present q of_next;
     each = λ q of_next v a. mid.each q of_next v (sync_dir-allowed folder s here q v a);
-    kept = λ q of_next was v a. kept q of_next v a (synced (folder_above q)) (bytes_eq (folder_above q) folder) refl refl was;
+    kept = λ q of_next was v a. kept q of_next v a (synced (folder_above q))
+        (bytes_eq (folder_above q) folder) refl refl was;
   }
     where
       kept : (q : Text) → IsOfVersion (length P + 1) q → (v : Content) → Allows ((after_sync_dir folder s).may q) v
-          → (a b : Bool) → synced (folder_above q) ≡ a → bytes_eq (folder_above q) folder ≡ b → IsTrue (a || b) → v ≡ files q
+          → (a b : Bool) → synced (folder_above q) ≡ a → bytes_eq (folder_above q) folder ≡ b
+          → IsTrue (a || b) → v ≡ files q
       kept q of_next v may true b e g either = mid.kept q of_next e v (sync_dir-allowed folder s here q v may)
       kept q of_next v may false false e g either = absurd (true≢false (sym either))
       kept q of_next v may false true e g either =
@@ -145,13 +173,16 @@ module _ {X : Type 0} (Stands : FileMap → List X → Type 0) (Complete : List 
     clear = mid.whole.clear;
     room = mid_room P files synced s new_head_path mid few;
     complete = λ m n image same. complete n (λ q under.
-        same q (not_head (length P + 1) q under) (not_new_head (length P + 1) q under) ∙ has q under (m q) (image q) (files q) refl);
+        same q (not_head (length P + 1) q under) (not_new_head (length P + 1) q under)
+        ∙ has q under (m q) (image q) (files q) refl);
   }
     where
-      has : (q : Text) → IsOfVersion (length P + 1) q → (v : Content) → Allows (s.may q) v → (c : Content) → files q ≡ c → v ≡ files q
+      has : (q : Text) → IsOfVersion (length P + 1) q → (v : Content) → Allows (s.may q) v → (c : Content)
+          → files q ≡ c → v ≡ files q
       has q under v a None e = of (mid.each q under v a)
         where
           of : (v ≡ None) ⊎ (v ≡ files q) → v ≡ files q
           of (inl g) = g ∙ sym e
           of (inr g) = g
-      has q under v a (Some bytes) e = let T : Content → Type 0 = IsThere in mid.kept q under (all q under (subst T (sym e) tt)) v a
+      has q under v a (Some bytes) e = let T : Content → Type 0 = IsThere in
+          mid.kept q under (all q under (subst T (sym e) tt)) v a

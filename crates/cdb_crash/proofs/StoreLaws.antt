@@ -50,23 +50,28 @@ tails_equal {A = A} x y xs ys e = ap rest e
     rest (z ∷ zs) = zs
 
 -- Where a list with one more is split, the one more is what stands at the cut, or stands after it.
-split : {A : Type 0} (P : List A) (x : A) (earlier : List A) (s : A) (later : List A) → P ++ x ∷ [] ≡ earlier ++ s ∷ later
+split : {A : Type 0} (P : List A) (x : A) (earlier : List A) (s : A) (later : List A)
+    → P ++ x ∷ [] ≡ earlier ++ s ∷ later
     → ((P ≡ earlier) × (x ≡ s)) ⊎ ((rest : List A) × (P ≡ earlier ++ s ∷ rest))
 split [] x [] s later e = inl ((refl, heads_equal x s [] later e))
 split [] x (y ∷ earlier) s later e = absurd (let n = ap length e in omega (arith, n, length-append earlier (s ∷ later)))
 split (p ∷ P) x [] s later e = inr ((P, λ i. heads_equal p s (P ++ x ∷ []) later e i ∷ P))
-split {A = A} (p ∷ P) x (y ∷ earlier) s later e = up (split P x earlier s later (tails_equal p y (P ++ x ∷ []) (earlier ++ s ∷ later) e))
+split {A = A} (p ∷ P) x (y ∷ earlier) s later e =
+    up (split P x earlier s later (tails_equal p y (P ++ x ∷ []) (earlier ++ s ∷ later) e))
   where
-    up : ((P ≡ earlier) × (x ≡ s)) ⊎ ((rest : List A) × (P ≡ earlier ++ s ∷ rest)) → ((p ∷ P ≡ y ∷ earlier) × (x ≡ s)) ⊎ ((rest : List A) × (p ∷ P ≡ (y ∷ earlier) ++ s ∷ rest))
+    up : ((P ≡ earlier) × (x ≡ s)) ⊎ ((rest : List A) × (P ≡ earlier ++ s ∷ rest)) → ((p ∷ P ≡ y ∷ earlier) × (x ≡ s))
+        ⊎ ((rest : List A) × (p ∷ P ≡ (y ∷ earlier) ++ s ∷ rest))
     up (inl (a, b)) = inl ((λ i. heads_equal p y (P ++ x ∷ []) (earlier ++ s ∷ later) e i ∷ a i, b))
     up (inr (rest, a)) = inr ((rest, λ i. heads_equal p y (P ++ x ∷ []) (earlier ++ s ∷ later) e i ∷ a i))
 
-shorter : (P earlier : List Publication) (s : Publication) (later : List Publication) → P ≡ earlier ++ s ∷ later → length earlier + 1 ≤ length P
+shorter : (P earlier : List Publication) (s : Publication) (later : List Publication) → P ≡ earlier ++ s ∷ later
+    → length earlier + 1 ≤ length P
 shorter P earlier s later e = let n = ap length e in omega (arith, n, length-append earlier (s ∷ later))
 
 -- ---- the laws of the maps
 -- No file is there beyond the version after the newest.
-pub none_beyond : (P : List Publication) (m : FileMap) → Stands m P → (k : ℕ) → length P + 2 ≤ k → NoneUnder m (version_folder k)
+pub none_beyond : (P : List Publication) (m : FileMap) → Stands m P → (k : ℕ) → length P + 2 ≤ k
+    → NoneUnder m (version_folder k)
 none_beyond P m store k beyond q under = of (m q) refl
   where
     of : (c : Content) → m q ≡ c → m q ≡ None
@@ -79,7 +84,8 @@ none_beyond P m store k beyond q under = of (m q) refl
         where_is (inr (inr in_versions)) = let same = versions_apart in_versions.version k q in_versions.under under in
             omega (arith, same, in_versions.to_next, beyond)
 
-leftovers : (P : List Publication) (old new : FileMap) → Stands old P → ((q : Text) → IsLeftover (length P) q ⊎ (new q ≡ old q))
+leftovers : (P : List Publication) (old new : FileMap) → Stands old P
+    → ((q : Text) → IsLeftover (length P) q ⊎ (new q ≡ old q))
     → HasAtMost 65536 (length P + 1) new → Stands new P
 leftovers P old new store changed few = record {
   publications = store.publications;
@@ -95,21 +101,27 @@ leftovers P old new store changed few = record {
     at_head (inl (inr under)) = absurd (not_head (length P + 1) head_path under refl)
     at_head (inr e) = e
 
-    at_version : (k : ℕ) → k ≤ length P → (q : Text) → IsOfVersion k q → IsLeftover (length P) q ⊎ (new q ≡ old q) → new q ≡ old q
+    at_version : (k : ℕ) → k ≤ length P → (q : Text) → IsOfVersion k q → IsLeftover (length P) q ⊎ (new q ≡ old q)
+        → new q ≡ old q
     at_version k to q under (inl (inl e)) = absurd (not_new_head k q under e)
-    at_version k to q under (inl (inr next)) = let same = versions_apart k (length P + 1) q under next in absurd (omega (arith, same, to))
+    at_version k to q under (inl (inr next)) = let same = versions_apart k (length P + 1) q under next in
+        absurd (omega (arith, same, to))
     at_version k to q under (inr e) = e
 
-    other : (q : Text) → IsThere (new q) → IsLeftover (length P) q ⊎ (new q ≡ old q) → (q ≡ head_path) ⊎ ((q ≡ new_head_path) ⊎ IsInVersions (length P) q)
+    other : (q : Text) → IsThere (new q) → IsLeftover (length P) q ⊎ (new q ≡ old q) → (q ≡ head_path)
+        ⊎ ((q ≡ new_head_path) ⊎ IsInVersions (length P) q)
     other q there (inl (inl e)) = inr (inl e)
-    other q there (inl (inr under)) = inr (inr (record { version = length P + 1; from_one = omega arith; to_next = omega arith; under = under }))
+    other q there (inl (inr under)) =
+        inr (inr (record { version = length P + 1; from_one = omega arith; to_next = omega arith; under = under }))
     other q there (inr e) = store.others q (let T : Content → Type 0 = IsThere in subst T e there)
 
-content-next : (P : List Publication) (x : Publication) → head_content (P ++ x ∷ []) ≡ Some (head_file_text (length P + 1))
+content-next : (P : List Publication) (x : Publication) → head_content (P ++ x ∷ [])
+    ≡ Some (head_file_text (length P + 1))
 content-next [] x = refl
 content-next (y ∷ P) x = ap (λ n. Some (head_file_text n)) (length-append (y ∷ P) (x ∷ []))
 
-next : (P : List Publication) (x : Publication) (old new : FileMap) → Stands old P → HasNext P x new → SameButHeads old new
+next : (P : List Publication) (x : Publication) (old new : FileMap) → Stands old P → HasNext P x new
+    → SameButHeads old new
     → new head_path ≡ Some (head_file_text (length P + 1)) → Stands new (P ++ x ∷ [])
 next P x old new store complete same head = record {
   publications = complete.publications;
@@ -120,7 +132,8 @@ next P x old new store complete same head = record {
       (λ q f. let T : Content → Type 0 = IsThere in subst T (no_more q (f.0)) (f.1));
 }
   where
-    version : (earlier : List Publication) (sources : Publication) → ((P ≡ earlier) × (x ≡ sources)) ⊎ ((rest : List Publication) × (P ≡ earlier ++ sources ∷ rest))
+    version : (earlier : List Publication) (sources : Publication) → ((P ≡ earlier) × (x ≡ sources))
+        ⊎ ((rest : List Publication) × (P ≡ earlier ++ sources ∷ rest))
         → HasVersion new earlier sources
     version earlier sources (inl (a, b)) =
         let V : Publication → Type 0 = λ s. HasVersion new earlier s in
@@ -133,23 +146,34 @@ next P x old new store complete same head = record {
         → (q ≡ head_path) ⊎ ((q ≡ new_head_path) ⊎ IsInVersions (length (P ++ x ∷ [])) q)
     other q there (inl e) b = inl e
     other q there (inr a) (inl e) = inr (inl e)
-    other q there (inr a) (inr b) = of (store.others q (let T : Content → Type 0 = IsThere in subst T (same q a b) there))
+    other q there (inr a) (inr b) =
+        of (store.others q (let T : Content → Type 0 = IsThere in subst T (same q a b) there))
       where
-        of : (q ≡ head_path) ⊎ ((q ≡ new_head_path) ⊎ IsInVersions (length P) q) → (q ≡ head_path) ⊎ ((q ≡ new_head_path) ⊎ IsInVersions (length (P ++ x ∷ [])) q)
+        of : (q ≡ head_path) ⊎ ((q ≡ new_head_path) ⊎ IsInVersions (length P) q) → (q ≡ head_path)
+            ⊎ ((q ≡ new_head_path) ⊎ IsInVersions (length (P ++ x ∷ [])) q)
         of (inl e) = inl e
         of (inr (inl e)) = inr (inl e)
-        of (inr (inr v)) = inr (inr (record { version = v.version; from_one = v.from_one; to_next = omega (arith, v.to_next, length-append P (x ∷ [])); under = v.under }))
+        of (inr (inr v)) =
+            inr (inr
+            (record {
+              version = v.version;
+              from_one = v.from_one;
+              to_next = omega (arith, v.to_next, length-append P (x ∷ []));
+              under = v.under;
+            }))
 
     no_more : (q : Text) → IsOfVersion (length (P ++ x ∷ []) + 1) q → new q ≡ None
     no_more q under = same q (not_head _ q under) (not_new_head _ q under)
         ∙ none_beyond P old store (length (P ++ x ∷ []) + 1) (omega (arith, length-append P (x ∷ []))) q under
 
-heads : (P : List Publication) (x : Publication) (m n : FileMap) → Stands m P → Stands n (P ++ x ∷ []) → m head_path ≢ n head_path
+heads : (P : List Publication) (x : Publication) (m n : FileMap) → Stands m P → Stands n (P ++ x ∷ [])
+    → m head_path ≢ n head_path
 heads P x m n a b e = of P a.publications.few (sym a.head ∙ e ∙ b.head ∙ content-next P x)
   where
     of : (P : List Publication) → length P ≤ 4096 → head_content P ≡ Some (head_file_text (length P + 1)) → ⊥
     of [] few e = gap (head_file_text 1) e
-    of (y ∷ P) few e = let same = head_text_tells (length (y ∷ P)) (length (y ∷ P) + 1) (omega (arith, few)) (omega (arith, few))
+    of (y ∷ P) few e = let same = head_text_tells (length (y ∷ P)) (length (y ∷ P) + 1) (omega (arith, few))
+        (omega (arith, few))
         (some_same (head_file_text (length (y ∷ P))) (head_file_text (length (y ∷ P) + 1)) e) in omega (arith, same)
 
 pub store_layout : IsLayout Stands HasNext head_file_text

@@ -9,10 +9,11 @@ use Rattle.cdb_files.specs.Whole.{after_fill}
 use Rattle.cdb_crash.specs.Leftovers.{IsOfVersion, HasAtMost}
 use Rattle.cdb_model.specs.declared.limits.TheConstants.{MOST_VERSIONS}
 
--- A path under a version that has no file at present has none after a crash. The last version is 4,096, and files may be
--- left under the one after it.
+-- A path under a version that has no file at present has none after a crash. The last version is 4,096, and files may
+-- be left under the one after it.
 pub record IsClear (s : State) : Type 0 where
-  pub gone : (version : ℕ) → version ≤ MOST_VERSIONS + 1 → (path : Text) → IsOfVersion version path → s.present path ≡ None → (v : Content) → Allows (s.may path) v → v ≡ None
+  pub gone : (version : ℕ) → version ≤ MOST_VERSIONS + 1 → (path : Text) → IsOfVersion version path
+      → s.present path ≡ None → (v : Content) → Allows (s.may path) v → v ≡ None
 
 -- A crash may leave a file at the path.
 abbrev pub MayLast : State → Text → Type 0
@@ -57,8 +58,10 @@ module _ {X : Type 0} (Stands : FileMap → List X → Type 0) where
   pub record IsMid (P : List X) (files : FileMap) (synced : Text → Bool) (s : State) : Type 0 where
     pub whole : IsWhole P s
     pub present : (path : Text) → IsOfVersion (length P + 1) path → s.present path ≡ files path
-    pub each : (path : Text) → IsOfVersion (length P + 1) path → (v : Content) → Allows (s.may path) v → (v ≡ None) ⊎ (v ≡ files path)
-    pub kept : (path : Text) → IsOfVersion (length P + 1) path → IsTrue (synced (folder_above path)) → (v : Content) → Allows (s.may path) v → v ≡ files path
+    pub each : (path : Text) → IsOfVersion (length P + 1) path → (v : Content) → Allows (s.may path) v
+        → (v ≡ None) ⊎ (v ≡ files path)
+    pub kept : (path : Text) → IsOfVersion (length P + 1) path → IsTrue (synced (folder_above path)) → (v : Content)
+        → Allows (s.may path) v → v ≡ files path
 
   -- There is room for a call on this path: every image stands for the list, and the files of the next version that a
   -- crash may leave, together with the path, are no more than may be left over.
@@ -75,8 +78,8 @@ module _ {X : Type 0} (Stands : FileMap → List X → Type 0) where
     pub clear : IsClear s
     pub either : (m : FileMap) → IsImage s m → IsEither P x m
 
-  -- A clear disk in recovery, of which a crash leaves only what stands for the list, with at most so many files under the
-  -- next version at present.
+  -- A clear disk in recovery, of which a crash leaves only what stands for the list, with at most so many files under
+  -- the next version at present.
   pub record IsClearing (P : List X) (count : ℕ) (s : State) : Type 0 where
     pub clear : IsClear s
     pub stands : (m : FileMap) → IsImage s m → Stands m P
@@ -84,7 +87,8 @@ module _ {X : Type 0} (Stands : FileMap → List X → Type 0) where
 
 -- A clear disk with room for the new head, on which all of a publication but the head is there, and stays in whatever a
 -- crash leaves.
-pub record IsReadyForHead {X : Type 0} (Stands : FileMap → List X → Type 0) (Complete : List X → X → FileMap → Type 0) (P : List X) (x : X) (s : State) : Type 0 where
+pub record IsReadyForHead {X : Type 0} (Stands : FileMap → List X → Type 0) (Complete : List X → X → FileMap → Type 0)
+    (P : List X) (x : X) (s : State) : Type 0 where
   pub clear : IsClear s
   pub room : HasRoom Stands P new_head_path s
   pub complete : (m n : FileMap) → IsImage s m → SameButHeads m n → Complete P x n

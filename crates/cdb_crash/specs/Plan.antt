@@ -19,8 +19,8 @@ pub record File : Type 0 where
   pub path : Text
   pub bytes : List ℕ
 
--- A file is written and synced in its folder, which is made where it isn't there; a folder is synced; or both, one after
--- the other, as for the record.
+-- A file is written and synced in its folder, which is made where it isn't there; a folder is synced; or both, one
+-- after the other, as for the record.
 pub data FileAction : Type 0 where
   write : File → FileAction
   sync : Text → FileAction
@@ -30,7 +30,8 @@ pub data FileAction : Type 0 where
 -- The files of sources, by their numbers from one on.
 abbrev pub source_files : ℕ → ℕ → List Source → List File
 source_files version number [] = []
-source_files version number (s ∷ sources) = record { path = source_path version number; bytes = source_text s } ∷ source_files version (number + 1) sources
+source_files version number (s ∷ sources) = record { path = source_path version number; bytes = source_text s }
+    ∷ source_files version (number + 1) sources
 
 -- The files of tiles, with their values of all these sources.
 abbrev pub tile_file : ℕ → List Source → Tile → File
@@ -42,7 +43,8 @@ files_of P x tiles = source_files (length P + 1) 1 x ++ map (tile_file (length P
 
 -- Its record.
 abbrev pub record_of : List (List Source) → List Source → List Tile → File
-record_of P x tiles = record { path = record_path (length P + 1); bytes = record_text (length P + 1) (heads_of x) tiles }
+record_of P x tiles =
+    record { path = record_path (length P + 1); bytes = record_text (length P + 1) (heads_of x) tiles }
 
 -- The folders that these files lie in, each once, in the order of first use.
 abbrev pub folders_of : List File → List Text
@@ -50,14 +52,17 @@ folders_of files = each_once (map (λ file. folder_above file.path) files)
 
 -- The files one by one, their folders one by one, and the record with its folder. The head is left.
 abbrev pub steps_of : List (List Source) → List Source → List Tile → List FileAction
-steps_of P x tiles = map write (files_of P x tiles) ++ (map sync (folders_of (files_of P x tiles)) ++ write_and_sync (record_of P x tiles) ∷ [])
+steps_of P x tiles =
+    map write (files_of P x tiles)
+    ++ (map sync (folders_of (files_of P x tiles)) ++ write_and_sync (record_of P x tiles) ∷ [])
 
 -- ---- what steps make
 -- What a step, and steps one after another, make of a disk.
 abbrev pub after_step : FileAction → State → State
 after_step (write file) s = after_write (folder_above file.path) file.path file.bytes s
 after_step (sync folder) s = after_sync_dir folder s
-after_step (write_and_sync file) s = after_sync_dir (folder_above file.path) (after_write (folder_above file.path) file.path file.bytes s)
+after_step (write_and_sync file) s = after_sync_dir (folder_above file.path)
+    (after_write (folder_above file.path) file.path file.bytes s)
 
 abbrev pub after_steps : List FileAction → State → State
 after_steps [] s = s
@@ -88,4 +93,5 @@ WritesTo q (write_and_sync file) = q ≡ file.path
 
 -- The middle of a publication after so many of its steps.
 abbrev pub IsMidAfter : List (List Source) → List Source → List Tile → ℕ → State → Type 0
-IsMidAfter P x tiles count s = IsMid Stands P (files_after (take count (steps_of P x tiles))) (synced_after (take count (steps_of P x tiles))) s
+IsMidAfter P x tiles count s = IsMid Stands P (files_after (take count (steps_of P x tiles)))
+    (synced_after (take count (steps_of P x tiles))) s

@@ -17,7 +17,8 @@ after_removals (path ∷ paths) s = after_removals paths (after_removal path s)
 -- Each of the paths lies under the version, and has a file when its turn comes.
 abbrev pub AreLeft : ℕ → List Text → State → Type 0
 AreLeft version [] s = Unit {0}
-AreLeft version (path ∷ paths) s = IsOfVersion version path × IsThere (s.present path) × AreLeft version paths (after_removal path s)
+AreLeft version (path ∷ paths) s = IsOfVersion version path × IsThere (s.present path)
+    × AreLeft version paths (after_removal path s)
 
 -- The root is synced, and the new head removed.
 abbrev pub after_barrier : State → State

@@ -47,19 +47,24 @@ place_true : (head : SourceHead) (t : Tile) → HasPlaceInBox head t → has_pla
 unfolding has_place
 place_true head t p =
     let n = tile_side t in
-    let row : get_or (range_with_len 0 n) p.row 0 ≡ p.row = omega (arith, get_or-range_with_len 0 n p.row 0 p.row_below) in
-    let col : get_or (range_with_len 0 n) p.col 0 ≡ p.col = omega (arith, get_or-range_with_len 0 n p.col 0 p.col_below) in
+    let row : get_or (range_with_len 0 n) p.row 0 ≡ p.row =
+    omega (arith, get_or-range_with_len 0 n p.row 0 p.row_below) in
+    let col : get_or (range_with_len 0 n) p.col 0 ≡ p.col =
+    omega (arith, get_or-range_with_len 0 n p.col 0 p.col_below) in
     let inner : list_any (λ c. is_in_box head (element_place t p.row c)) (range_with_len 0 n) ≡ true =
-    list_any_at (λ c. is_in_box head (element_place t p.row c)) (range_with_len 0 n) p.col 0 (omega (arith, length-range_with_len 0 n, p.col_below))
+    list_any_at (λ c. is_in_box head (element_place t p.row c)) (range_with_len 0 n) p.col 0
+    (omega (arith, length-range_with_len 0 n, p.col_below))
     (ap (λ c. is_in_box head (element_place t p.row c)) col ∙ box_test head (element_place t p.row p.col) p.inside) in
-    list_any_at (λ r. list_any (λ c. is_in_box head (element_place t r c)) (range_with_len 0 n)) (range_with_len 0 n) p.row 0 (omega (arith, length-range_with_len 0 n, p.row_below))
+    list_any_at (λ r. list_any (λ c. is_in_box head (element_place t r c)) (range_with_len 0 n)) (range_with_len 0 n)
+    p.row 0 (omega (arith, length-range_with_len 0 n, p.row_below))
     (ap (λ r. list_any (λ c. is_in_box head (element_place t r c)) (range_with_len 0 n)) row ∙ inner)
 
 place_false : (head : SourceHead) (t : Tile) → (HasPlaceInBox head t → ⊥) → has_place head t ≡ false
 unfolding has_place
 place_false head t none =
     let n = tile_side t in
-    list_any_none (λ r. list_any (λ c. is_in_box head (element_place t r c)) (range_with_len 0 n)) (range_with_len 0 n) (λ i d l.
+    list_any_none (λ r. list_any (λ c. is_in_box head (element_place t r c)) (range_with_len 0 n))
+    (range_with_len 0 n) (λ i d l.
     let i_below : i < n = omega (arith, length-range_with_len 0 n, l) in
     let row : get_or (range_with_len 0 n) i d ≡ i = omega (arith, get_or-range_with_len 0 n i d i_below) in
     ap (λ r. list_any (λ c. is_in_box head (element_place t r c)) (range_with_len 0 n)) row
@@ -67,7 +72,15 @@ place_false head t none =
     let j_below : j < n = omega (arith, length-range_with_len 0 n, m) in
     let col : get_or (range_with_len 0 n) j e ≡ j = omega (arith, get_or-range_with_len 0 n j e j_below) in
     ap (λ c. is_in_box head (element_place t i c)) col
-    ∙ not_true (is_in_box head (element_place t i j)) (λ yes. none (record { row = i; col = j; row_below = i_below; col_below = j_below; inside = in_box head (element_place t i j) yes }))))
+    ∙ not_true (is_in_box head (element_place t i j))
+    (λ yes. none
+    (record {
+      row = i;
+      col = j;
+      row_below = i_below;
+      col_below = j_below;
+      inside = in_box head (element_place t i j) yes;
+    }))))
 
 pub no_rows : (head : SourceHead) (t : Tile) → HasNoWindow head t → has_window head t ≡ false
 no_rows head t none = by (same_kind head.kind (kind_of t.family)) refl
@@ -76,5 +89,7 @@ no_rows head t none = by (same_kind head.kind (kind_of t.family)) refl
     by true e = last_false (same_kind head.kind (kind_of t.family)) _ (place_false head t (none (same_from _ _ e)))
     by false e = first_false _ _ e
 
-pub some_rows : (head : SourceHead) (t : Tile) (first count : ℕ) → IsWindow head t first count → has_window head t ≡ true
-some_rows head t first count w = both_true _ _ (same_true head.kind (kind_of t.family) w.kind) (place_true head t w.first_looked.place)
+pub some_rows : (head : SourceHead) (t : Tile) (first count : ℕ) → IsWindow head t first count
+    → has_window head t ≡ true
+some_rows head t first count w = both_true _ _ (same_true head.kind (kind_of t.family) w.kind)
+    (place_true head t w.first_looked.place)

@@ -20,7 +20,8 @@ use Rattle.cdb_cut.specs.OneTile.{IsFrameOf, four_rule, IsFolded, IsWholeFolded,
 
 -- no value is the number that stands for none
 abbrev pub PlainValues : Type 0
-PlainValues = (f : Family) (ss : List Source) (h : ℕ) (c : Place) → IfSome (family_value f ss h c) (λ v. v ≡ none_of (kind_of f) → ⊥)
+PlainValues = (f : Family) (ss : List Source) (h : ℕ) (c : Place)
+    → IfSome (family_value f ss h c) (λ v. v ≡ none_of (kind_of f) → ⊥)
 
 -- whether a tile has a window of a source follows from the two by a test
 pub record WindowsAreTested : Type 0 where
@@ -31,7 +32,8 @@ pub record WindowsAreTested : Type 0 where
 -- columns: what the posts of a source have there stays
 abbrev pub ReducedMeans : Type 0
 ReducedMeans = (s : Source) (g h m n up right : ℕ) → 1 ≤ g → 1 ≤ h → 1 ≤ m → 1 ≤ n
-    → value_from s.head.kind (post_at s) (g * m) (h * n) (g * up) (h * right) ≡ value_from s.head.kind (post_at s) m n up right
+    → value_from s.head.kind (post_at s) (g * m) (h * n) (g * up) (h * right)
+    ≡ value_from s.head.kind (post_at s) m n up right
 
 -- a source list doesn't reach a tile
 abbrev pub NoneReaches : List Source → Tile → Type 0
@@ -47,33 +49,49 @@ IsExtreme f = (f ≡ Low) ⊎ (f ≡ High)
 -- the finer tiles of a tile, one after the other: each is folded in, or no source reaches it
 pub record TileFromFiner : Type 0 where
   pub empty : (ss : List Source) (t : Tile) (frame : List ℤ) → length frame ≡ tile_side t * tile_side t
-      → ((row col : ℕ) → row < tile_side t → col < tile_side t → number_at frame (tile_side t) row col ≡ none_of (kind_of t.family)) → IsFolded ss t no_values [] frame
-  pub elevations : (ss : List Source) (t e : Tile) (frame : List ℤ) → kind_of t.family ≡ Elevation → IsElevationOf e t → IsFrameOf ss e frame → IsFolded ss t (elevations_of ss t) [] frame
+      → ((row col : ℕ) → row < tile_side t → col < tile_side t
+      → number_at frame (tile_side t) row col ≡ none_of (kind_of t.family)) → IsFolded ss t no_values [] frame
+  pub elevations : (ss : List Source) (t e : Tile) (frame : List ℤ) → kind_of t.family ≡ Elevation → IsElevationOf e t
+      → IsFrameOf ss e frame → IsFolded ss t (elevations_of ss t) [] frame
   pub fold : (ss : List Source) (t : Tile) (start : ℕ → ℕ → Option ℤ) (c : Tile) (row col : ℕ) → StandsIn c t row col
       → ((r q : ℕ) → IfSome (start r q) (λ v. v ≡ none_of (kind_of t.family) → ⊥))
       → (child : List ℤ) → IsFrameOf ss c child → (done : List Tile) (old new : List ℤ) → IsFolded ss t start done old
-      → IsPartChanged (four_under (four_rule t.family) child (tile_side c)) row col (tile_side c / 2) (tile_side c / 2) (tile_side t) old new
+      → IsPartChanged (four_under (four_rule t.family) child (tile_side c)) row col (tile_side c / 2) (tile_side c / 2)
+      (tile_side t) old new
       → IsFolded ss t start (done ++ c ∷ []) new
-  pub miss : (ss : List Source) (t : Tile) (start : ℕ → ℕ → Option ℤ) (c : Tile) (row col : ℕ) → StandsIn c t row col → NoneReaches ss c
-      → (done : List Tile) (frame : List ℤ) → IsFolded ss t start done frame → IsFolded ss t start (done ++ c ∷ []) frame
-  pub whole : (ss : List Source) (t : Tile) (start : ℕ → ℕ → Option ℤ) (done : List Tile) (frame : List ℤ) → IsFolded ss t start done frame
+  pub miss : (ss : List Source) (t : Tile) (start : ℕ → ℕ → Option ℤ) (c : Tile) (row col : ℕ) → StandsIn c t row col
+      → NoneReaches ss c
+      → (done : List Tile) (frame : List ℤ) → IsFolded ss t start done frame
+      → IsFolded ss t start (done ++ c ∷ []) frame
+  pub whole : (ss : List Source) (t : Tile) (start : ℕ → ℕ → Option ℤ) (done : List Tile) (frame : List ℤ)
+      → IsFolded ss t start done frame
       → ((p : Place) → IsInTile t p → Any (λ d. IsInTile d p) done) → IsWholeFolded ss t start frame
-  pub finest : (ss : List Source) (t : Tile) (start : ℕ → ℕ → Option ℤ) (frame : List ℤ) → tile_height t ≡ 1 → IsFolded ss t start [] frame → IsWholeFolded ss t start frame
-  pub extreme : (ss : List Source) (t : Tile) (frame : List ℤ) → IsExtreme t.family → IsWholeFolded ss t (elevations_of ss t) frame → IsFrameOf ss t frame
+  pub finest : (ss : List Source) (t : Tile) (start : ℕ → ℕ → Option ℤ) (frame : List ℤ) → tile_height t ≡ 1
+      → IsFolded ss t start [] frame → IsWholeFolded ss t start frame
+  pub extreme : (ss : List Source) (t : Tile) (frame : List ℤ) → IsExtreme t.family
+      → IsWholeFolded ss t (elevations_of ss t) frame → IsFrameOf ss t frame
 
 -- where a child stands in its parent is what the call that tells it says
 abbrev pub StandsAt : Type 0
-StandsAt = (c t : Tile) (row col : ℕ) → IsParent c t → ((p : Tile) → IsParent c p → element_corner p row col ≡ element_corner c 0 0)
-    → row + tile_side c / 2 ≤ side_of (tile_height c + 1) → col + tile_side c / 2 ≤ side_of (tile_height c + 1) → StandsIn c t row col
+StandsAt = (c t : Tile) (row col : ℕ) → IsParent c t
+    → ((p : Tile) → IsParent c p → element_corner p row col ≡ element_corner c 0 0)
+    → row + tile_side c / 2 ≤ side_of (tile_height c + 1) → col + tile_side c / 2 ≤ side_of (tile_height c + 1)
+    → StandsIn c t row col
 
--- then the sources of exactly the tile's level, newest first, and the tile that stood there before; or all sources, and no older tile
+-- then the sources of exactly the tile's level, newest first, and the tile that stood there before; or all sources, and
+-- no older tile
 pub record FromOwn : Type 0 where
-  pub start : (ss : List Source) (t : Tile) (frame : List ℤ) → IsOwn t.family → IsWholeFolded ss t no_values frame → IsPaintedBy ss t [] frame
-  pub paint : (ss : List Source) (t : Tile) (s : Source) (own : List Source) (old new : List ℤ) → s.head.kind ≡ kind_of t.family → source_height s.head ≡ tile_height t
+  pub start : (ss : List Source) (t : Tile) (frame : List ℤ) → IsOwn t.family → IsWholeFolded ss t no_values frame
+      → IsPaintedBy ss t [] frame
+  pub paint : (ss : List Source) (t : Tile) (s : Source) (own : List Source) (old new : List ℤ)
+      → s.head.kind ≡ kind_of t.family → source_height s.head ≡ tile_height t
       → IsPaintedBy ss t own old → IsPainted s t old new → IsPaintedBy ss t (s ∷ own) new
   pub pass : (ss : List Source) (t : Tile) (s : Source) (own : List Source) (frame : List ℤ)
-      → (s.head.kind ≡ kind_of t.family → source_height s.head ≡ tile_height t → Reaches s.head t → ⊥) → IsPaintedBy ss t own frame → IsPaintedBy ss t (s ∷ own) frame
+      → (s.head.kind ≡ kind_of t.family → source_height s.head ≡ tile_height t → Reaches s.head t → ⊥)
+      → IsPaintedBy ss t own frame → IsPaintedBy ss t (s ∷ own) frame
   pub fill : (ss ts : List Source) (t : Tile) (older old new : List ℤ) → IsOwn t.family → IsFrameOf ss t older
       → IsPaintedBy (ss ++ ts) t ts old → IsFilled t older old new → IsFrameOf (ss ++ ts) t new
-  pub no_older : (ss ts : List Source) (t : Tile) (frame : List ℤ) → IsOwn t.family → NoneReaches ss t → IsPaintedBy (ss ++ ts) t ts frame → IsFrameOf (ss ++ ts) t frame
-  pub whole : (ss : List Source) (t : Tile) (frame : List ℤ) → IsOwn t.family → IsPaintedBy ss t ss frame → IsFrameOf ss t frame
+  pub no_older : (ss ts : List Source) (t : Tile) (frame : List ℤ) → IsOwn t.family → NoneReaches ss t
+      → IsPaintedBy (ss ++ ts) t ts frame → IsFrameOf (ss ++ ts) t frame
+  pub whole : (ss : List Source) (t : Tile) (frame : List ℤ) → IsOwn t.family → IsPaintedBy ss t ss frame
+      → IsFrameOf ss t frame

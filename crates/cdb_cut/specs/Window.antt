@@ -27,7 +27,8 @@ LooksAt Material step far row = (row * step ≤ far) × (far < row * step + step
 -- sampling at a place of a tile in the box looks at a row of the source
 pub record IsLookedAt (head : SourceHead) (t : Tile) (source_row : ℕ) : Type 0 where
   pub place : HasPlaceInBox head t
-  pub looks : LooksAt head.kind (row_step head) ((element_place t place.row place.col).north - (corner_of head).north) source_row
+  pub looks : LooksAt head.kind (row_step head) ((element_place t place.row place.col).north - (corner_of head).north)
+      source_row
 
 -- so many rows from a first one on are the least run that has every row that is looked at
 pub record IsWindow (head : SourceHead) (t : Tile) (first count : ℕ) : Type 0 where
@@ -48,7 +49,9 @@ rows_of s first count = take (count * s.head.cols) (drop (first * s.head.cols) s
 
 -- the test whether some place of a tile lies in the box of a source
 unfoldable pub has_place : SourceHead → Tile → Bool
-has_place head t = list_any (λ row. list_any (λ col. is_in_box head (element_place t row col)) (range_with_len 0 (tile_side t))) (range_with_len 0 (tile_side t))
+has_place head t =
+    list_any (λ row. list_any (λ col. is_in_box head (element_place t row col)) (range_with_len 0 (tile_side t)))
+    (range_with_len 0 (tile_side t))
 
 -- the test whether there is something to look at
 abbrev pub has_window : SourceHead → Tile → Bool

@@ -4,7 +4,8 @@ use Rattle.cdb_model.specs.Maps.{FileMap}
 use Rattle.cdb_files.specs.Moments.{Elapses, Rests, AddsOnly}
 
 -- Two calls in a row that only read.
-pub rests_then : (a b c : ℕ) (past mid since : ℕ → FileMap → Type 0) → Rests a b past mid → Rests b c mid since → Rests a c past since
+pub rests_then : (a b c : ℕ) (past mid since : ℕ → FileMap → Type 0) → Rests a b past mid → Rests b c mid since
+    → Rests a c past since
 rests_then a b c past mid since one two = record {
   same = two.same ∙ one.same;
   nothing_else = λ t m h. one.nothing_else t m (two.nothing_else t m h);
@@ -37,7 +38,8 @@ module _ {D : Type 0} (clock : D → ℕ) (since : D → ℕ → FileMap → Typ
   }
 
   -- Two runs in a row.
-  pub then_on : (a b c : D) (P : FileMap → Type 0) → AddsOnly clock since a b P → AddsOnly clock since b c P → AddsOnly clock since a c P
+  pub then_on : (a b c : D) (P : FileMap → Type 0) → AddsOnly clock since a b P → AddsOnly clock since b c P
+      → AddsOnly clock since a c P
   then_on a b c P run more = record {
     later = omega (arith, run.later, more.later);
     nothing_else = λ t m le h. last t m le (more.nothing_else t m (omega (arith, le, run.later)) h);
@@ -48,7 +50,8 @@ module _ {D : Type 0} (clock : D → ℕ) (since : D → ℕ → FileMap → Typ
       last t m le (inr p) = inr p
 
   -- The images are said to be of a wider kind.
-  pub weaker : (a b : D) (P Q : FileMap → Type 0) → AddsOnly clock since a b P → ((m : FileMap) → P m → Q m) → AddsOnly clock since a b Q
+  pub weaker : (a b : D) (P Q : FileMap → Type 0) → AddsOnly clock since a b P → ((m : FileMap) → P m → Q m)
+      → AddsOnly clock since a b Q
   weaker a b P Q run wide = record {
     later = run.later;
     nothing_else = λ t m le h. of t m (run.nothing_else t m le h);

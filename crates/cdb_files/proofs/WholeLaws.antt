@@ -19,7 +19,8 @@ module _ {D : Type 0} (clock : D → ℕ) (since : D → ℕ → FileMap → Typ
 
   -- One call more, which would lead to the state `after`.
   pub onward : (a b c : D) (after : State) → WritesOnly clock since state path a b → ChangesOnly path (state b) after
-      → Elapses (clock b) (clock c) (since b) (since c) (IsBetween (state b) after) → ChangesOnly path (state b) (state c)
+      → Elapses (clock b) (clock c) (since b) (since c) (IsBetween (state b) after)
+      → ChangesOnly path (state b) (state c)
       → WritesOnly clock since state path a c
   onward a b c after run call time only = record {
     only = then-only path (state a) (state b) (state c) run.only only;
@@ -31,16 +32,20 @@ module _ {D : Type 0} (clock : D → ℕ) (since : D → ℕ → FileMap → Typ
   pub onward_ok : (a b c : D) (after : State) → WritesOnly clock since state path a b → ChangesOnly path (state b) after
       → Elapses (clock b) (clock c) (since b) (since c) (IsBetween (state b) after) → state c ≡ after
       → WritesOnly clock since state path a c
-  onward_ok a b c after run call time ok = onward a b c after run call time (equal-only path (state b) after (state c) call ok)
+  onward_ok a b c after run call time ok =
+      onward a b c after run call time (equal-only path (state b) after (state c) call ok)
 
   -- One call more that failed.
-  pub onward_err : (a b c : D) (after : State) → WritesOnly clock since state path a b → ChangesOnly path (state b) after
+  pub onward_err : (a b c : D) (after : State) → WritesOnly clock since state path a b
+      → ChangesOnly path (state b) after
       → Elapses (clock b) (clock c) (since b) (since c) (IsBetween (state b) after) → Fails (state b) after (state c)
       → WritesOnly clock since state path a c
-  onward_err a b c after run call time err = onward a b c after run call time (fails-only path (state b) after (state c) call err)
+  onward_err a b c after run call time err =
+      onward a b c after run call time (fails-only path (state b) after (state c) call err)
 
   -- A run more.
-  pub further : (a b c : D) → WritesOnly clock since state path a b → WritesOnly clock since state path b c → WritesOnly clock since state path a c
+  pub further : (a b c : D) → WritesOnly clock since state path a b → WritesOnly clock since state path b c
+      → WritesOnly clock since state path a c
   further a b c run more = record {
     only = then-only path (state a) (state b) (state c) run.only more.only;
     time = then_on clock since a b c (IsImageBut path (state a)) run.time

@@ -65,15 +65,18 @@ after_create path s = record s { present = put s.present path (Some []); may = p
 
 -- The piece is added, and a crash may leave anything there.
 unfoldable pub after_append : Text → List ℕ → State → State
-after_append path piece s = record s { present = put s.present path (with_piece piece (s.present path)); may = put s.may path None }
+after_append path piece s =
+    record s { present = put s.present path (with_piece piece (s.present path)); may = put s.may path None }
 
 unfoldable pub after_sync_file : Text → State → State
 after_sync_file path s = record s { may = put s.may path (settled (s.present path) (s.may path)) }
 
 unfoldable pub after_sync_dir : Text → State → State
-after_sync_dir folder s = record s { may = λ q. if bytes_eq (folder_above q) folder then after_sync (s.present q) (s.may q) else s.may q }
+after_sync_dir folder s =
+    record s { may = λ q. if bytes_eq (folder_above q) folder then after_sync (s.present q) (s.may q) else s.may q }
 
--- `to` has the bytes of `from`, which is absent. A crash may leave at `to` what it might before or these bytes, and at `from` nothing or these bytes.
+-- `to` has the bytes of `from`, which is absent. A crash may leave at `to` what it might before or these bytes, and at
+-- `from` nothing or these bytes.
 unfoldable pub after_rename : Text → Text → State → State
 after_rename from to s = record s {
   present = put (put s.present to (s.present from)) from None;

@@ -7,7 +7,8 @@ use Rattle.cdb_files.specs.Disk.{State, Allows}
 abbrev pub IsBetween : State → State → FileMap → Type 0
 IsBetween old after m = (q : Text) → Allows (old.may q) (m q) ⊎ Allows (after.may q) (m q)
 
--- One call: the clock doesn't go back, and the images since an earlier moment are those from before the call and some of P.
+-- One call: the clock doesn't go back, and the images since an earlier moment are those from before the call and some
+-- of P.
 pub record Elapses (before now : ℕ) (past since : ℕ → FileMap → Type 0) (P : FileMap → Type 0) : Type 0 where
   pub later : before ≤ now
   pub nothing_else : (t : ℕ) (m : FileMap) → t ≤ before → since t m → past t m ⊎ P m
@@ -23,7 +24,9 @@ pub record Rests (before now : ℕ) (past since : ℕ → FileMap → Type 0) : 
 abbrev pub Moves : ℕ → ℕ → State → State → Type 0
 Moves before now old new = ((new.present ≡ old.present) × (new.may ≡ old.may)) ⊎ (before < now)
 
--- A run of calls from one disk to another, whose images since an earlier moment are those from before the run and some of P.
-pub record AddsOnly {D : Type 0} (clock : D → ℕ) (since : D → ℕ → FileMap → Type 0) (old new : D) (P : FileMap → Type 0) : Type 0 where
+-- A run of calls from one disk to another, whose images since an earlier moment are those from before the run and some
+-- of P.
+pub record AddsOnly {D : Type 0} (clock : D → ℕ) (since : D → ℕ → FileMap → Type 0) (old new : D)
+    (P : FileMap → Type 0) : Type 0 where
   pub later : clock old ≤ clock new
   pub nothing_else : (t : ℕ) (m : FileMap) → t ≤ clock old → since new t m → since old t m ⊎ P m

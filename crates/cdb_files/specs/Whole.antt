@@ -12,14 +12,15 @@ after_pieces path bytes s = record s { present = put s.present path (Some bytes)
 
 -- The file has these bytes and is synced: a crash leaves it so, or absent.
 unfoldable pub after_fill : Text → List ℕ → State → State
-after_fill path bytes s = record s { present = put s.present path (Some bytes); may = put s.may path (Some (None ∷ Some bytes ∷ [])) }
+after_fill path bytes s =
+    record s { present = put s.present path (Some bytes); may = put s.may path (Some (None ∷ Some bytes ∷ [])) }
 
 -- The same, with the folder made in which it lies.
 unfoldable pub after_write : Text → Text → List ℕ → State → State
 after_write folder path bytes s = after_fill path bytes (after_make_dir folder s)
 
--- What the writing of a file leaves that failed: what a failed `create` leaves, or a first part of the bytes is there, and
--- a crash may leave anything at the path.
+-- What the writing of a file leaves that failed: what a failed `create` leaves, or a first part of the bytes is there,
+-- and a crash may leave anything at the path.
 pub data FailsFill (path : Text) (bytes : List ℕ) (old new : State) : Type 0 where
   in_create : Fails old (after_create path old) new → FailsFill path bytes old new
   after_part : (n : ℕ) → n ≤ length bytes → new ≡ after_pieces path (take n bytes) old → FailsFill path bytes old new
@@ -39,7 +40,8 @@ pub record ChangesOnly (path : Text) (old new : State) : Type 0 where
   pub may : (q : Text) → q ≢ path → new.may q ≡ old.may q
 
 -- A run of calls that changes one path alone, at each of its moments.
-pub record WritesOnly {D : Type 0} (clock : D → ℕ) (since : D → ℕ → FileMap → Type 0) (state : D → State) (path : Text) (old new : D) : Type 0 where
+pub record WritesOnly {D : Type 0} (clock : D → ℕ) (since : D → ℕ → FileMap → Type 0) (state : D → State) (path : Text)
+    (old new : D) : Type 0 where
   pub only : ChangesOnly path (state old) (state new)
   pub time : AddsOnly clock since old new (IsImageBut path (state old))
 

@@ -50,7 +50,8 @@ pub trait Disk {
     /// The first file under the folder at any depth, by the order of the bytes of its whole path,
     /// or `None` where there is none.
     fn first_under(&mut self, folder: &Path) -> Result<Option<Path>, Failed>
-        ensures first { tells → IfOk result (λ found. MatchOption found (NoneUnder (state self.old).present folder.now.bytes)
+        ensures first { tells
+            → IfOk result (λ found. MatchOption found (NoneUnder (state self.old).present folder.now.bytes)
             (λ path. IsFirstUnder (state self.old).present folder.now.bytes path.bytes)) }
         ensures state { state self.new ≡ state self.old }
         ensures time { Rests (clock self.old) (clock self.new) (since self.old) (since self.new) }
@@ -61,7 +62,8 @@ pub trait Disk {
     /// of them may have been made.
     fn make_dir(&mut self, folder: &Path) -> Result<(), Failed>
         ensures ok { tells → OnOk result (state self.new ≡ after_make_dir folder.now.bytes (state self.old)) }
-        ensures err { tells → OnErr result (FailsMakeDir (state self.old) (after_make_dir folder.now.bytes (state self.old)) (state self.new)) }
+        ensures err { tells → OnErr result
+            (FailsMakeDir (state self.old) (after_make_dir folder.now.bytes (state self.old)) (state self.new)) }
         ensures time { tells → Elapses (clock self.old) (clock self.new) (since self.old) (since self.new)
             (IsBetween (state self.old) (after_make_dir folder.now.bytes (state self.old))) }
         ensures moves { tells → Moves (clock self.old) (clock self.new) (state self.old) (state self.new) }
@@ -73,7 +75,8 @@ pub trait Disk {
     fn create(&mut self, path: &Path) -> Result<(), Failed>
         requires { tells → IsMade (state self.old) (folder_above path.now.bytes) }
         ensures ok { tells → OnOk result (state self.new ≡ after_create path.now.bytes (state self.old)) }
-        ensures err { tells → OnErr result (Fails (state self.old) (after_create path.now.bytes (state self.old)) (state self.new)) }
+        ensures err { tells → OnErr result
+            (Fails (state self.old) (after_create path.now.bytes (state self.old)) (state self.new)) }
         ensures time { tells → Elapses (clock self.old) (clock self.new) (since self.old) (since self.new)
             (IsBetween (state self.old) (after_create path.now.bytes (state self.old))) }
         ensures moves { tells → Moves (clock self.old) (clock self.new) (state self.old) (state self.new) }
@@ -121,7 +124,8 @@ pub trait Disk {
         requires there { tells → IsThere ((state self.old).present from.now.bytes) }
         requires settled { tells → IsSettledAt (state self.old) from.now.bytes }
         ensures ok { tells → OnOk result (state self.new ≡ after_rename from.now.bytes to.now.bytes (state self.old)) }
-        ensures err { tells → OnErr result (Fails (state self.old) (after_rename from.now.bytes to.now.bytes (state self.old)) (state self.new)) }
+        ensures err { tells → OnErr result
+            (Fails (state self.old) (after_rename from.now.bytes to.now.bytes (state self.old)) (state self.new)) }
         ensures time { tells → Elapses (clock self.old) (clock self.new) (since self.old) (since self.new)
             (IsBetween (state self.old) (after_rename from.now.bytes to.now.bytes (state self.old))) }
         ensures moves { tells → Moves (clock self.old) (clock self.new) (state self.old) (state self.new) }
@@ -132,7 +136,8 @@ pub trait Disk {
     /// or as after it.
     fn remove(&mut self, path: &Path) -> Result<(), Failed>
         ensures ok { tells → OnOk result (state self.new ≡ after_remove path.now.bytes (state self.old)) }
-        ensures err { tells → OnErr result (Fails (state self.old) (after_remove path.now.bytes (state self.old)) (state self.new)) }
+        ensures err { tells → OnErr result
+            (Fails (state self.old) (after_remove path.now.bytes (state self.old)) (state self.new)) }
         ensures time { tells → Elapses (clock self.old) (clock self.new) (since self.old) (since self.new)
             (IsBetween (state self.old) (after_remove path.now.bytes (state self.old))) }
         ensures moves { tells → Moves (clock self.old) (clock self.new) (state self.old) (state self.new) }

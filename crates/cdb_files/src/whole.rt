@@ -42,8 +42,10 @@ pub fn write_whole<D: Disk>(
     piece: &[u8],
 ) -> Result<(), Failed>
     requires { folder.now.bytes ≡ folder_above path.now.bytes }
-    ensures ok { D.tells → OnOk result (D.state disk.new ≡ after_write folder.now.bytes path.now.bytes piece.now (D.state disk.old)) }
-    ensures err { D.tells → OnErr result (FailsWrite folder.now.bytes path.now.bytes piece.now (D.state disk.old) (D.state disk.new)) }
+    ensures ok { D.tells
+        → OnOk result (D.state disk.new ≡ after_write folder.now.bytes path.now.bytes piece.now (D.state disk.old)) }
+    ensures err { D.tells
+        → OnErr result (FailsWrite folder.now.bytes path.now.bytes piece.now (D.state disk.old) (D.state disk.new)) }
     ensures only { D.tells → WritesOnly D.clock D.since D.state path.now.bytes disk.old disk.new }
     ensures cause { HasCause (D.fault_count disk.old) (D.fault_count disk.new) result }
     ensures reads { D.read_count disk.new ≡ D.read_count disk.old }
@@ -60,7 +62,8 @@ pub fn read_whole<D: Disk>(disk: &mut D, path: &Path, into: &mut [u8]) -> Result
     ensures state { D.state disk.new ≡ D.state disk.old }
     ensures time { Rests (D.clock disk.old) (D.clock disk.new) (D.since disk.old) (D.since disk.new) }
     ensures cause { HasCause (D.fault_count disk.old) (D.fault_count disk.new) result }
-    ensures reads { (D.read_count disk.old ≤ D.read_count disk.new) × (D.read_count disk.new ≤ D.read_count disk.old + 1) }
+    ensures reads { (D.read_count disk.old ≤ D.read_count disk.new)
+        × (D.read_count disk.new ≤ D.read_count disk.old + 1) }
     ensures nothing { IfOk result (ReadsIfWhole (D.read_count disk.old) (D.read_count disk.new)) }
 {
     let size = disk.size(path)?;

@@ -23,7 +23,8 @@ step_low h low =
 product : (r s : ℕ) → r ≤ 64 → s ≤ 2174327193600 → r * s ≤ 139156940390400
 product r s few small = omega (arith, mul-le-mul_left r small, few)
 
-span_low : (kind : Kind) (r s : ℕ) → r < 64 → s ≤ 2174327193600 → span kind (1 + r) (magnitude (pos s)) ≤ 139156940390400
+span_low : (kind : Kind) (r s : ℕ) → r < 64 → s ≤ 2174327193600
+    → span kind (1 + r) (magnitude (pos s)) ≤ 139156940390400
 span_low Elevation r s few small = let p = product (1 + r - 1) (s + 0) (omega (arith, few)) (omega (arith, small)) in p
 span_low Material r s few small = let p = product (1 + r) (s + 0) (omega (arith, few)) (omega (arith, small)) in p
 

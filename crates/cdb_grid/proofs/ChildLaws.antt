@@ -34,13 +34,15 @@ above_of : (t c : Tile) → t.level.number +ℤ pos 1 ≡ c.level.number → til
 above_of t c e = height-finer t.level.number c.level.number c.level.finest e
 
 -- one child in a quarter begins there
-pub quarter-begins : (t : Tile) (i j : ℕ) (c : Tile) → pos 0 ≤ℤ t.level.number → i < 2 → j < 2 → IsQuarter t i j c → IsChildAt i j t c
+pub quarter-begins : (t : Tile) (i j : ℕ) (c : Tile) → pos 0 ≤ℤ t.level.number → i < 2 → j < 2 → IsQuarter t i j c
+    → IsChildAt i j t c
 quarter-begins t i j c from il jl k =
     let eu = k.up in let er = k.right in
     let parent : IsParent c t = is_parent c t (sym k.family) (sym k.cell) k.level (omega arith) (omega arith) in
     let above : tile_height t ≡ suc (tile_height c) = above_of t c k.level in
     let top : tile_height t ≤ 24 = height-from t.level.number from in
-    let sides : tile_side c ≡ tile_side t = side-fine (tile_height c) (omega arith) ∙ sym (side-fine (tile_height t) top) in
+    let sides : tile_side c ≡ tile_side t = side-fine (tile_height c) (omega arith)
+    ∙ sym (side-fine (tile_height t) top) in
     let u : c.up % 2 ≡ i = omega arith in
     let r : c.right % 2 ≡ j = omega arith in
     let corner : ℕ → ℕ → ℕ → Place = λ a b s. element_corner t (a * (s / 2)) (b * (s / 2)) in
@@ -69,7 +71,8 @@ whole-begins t c below k =
     }
 
 -- a place of one axis is in one half of a tile
-halves : (b u S T side s n : ℕ) → S * T ≡ 2 * (side * s) → Axis b u S T n → (Axis b (2 * u + 0) side s n) ⊎ (Axis b (2 * u + 1) side s n)
+halves : (b u S T side s n : ℕ) → S * T ≡ 2 * (side * s) → Axis b u S T n → (Axis b (2 * u + 0) side s n)
+    ⊎ (Axis b (2 * u + 1) side s n)
 halves b u S T side s n e a =
     let low = a.0 in let high = a.1 in
     let m : u * (S * T) ≡ u * (2 * (side * s)) = ap (λ x. u * x) e in
@@ -106,7 +109,8 @@ in_cell t c u r p ec eu er a b =
     (ap (λ x. column_of x.lon * degree) ec) er b' in
     record { south = n.0; north = n.1; west = e.0; east = e.1 }
 
-extent-above : (t c : Tile) → t.level.number +ℤ pos 1 ≡ c.level.number → pos 0 ≤ℤ t.level.number → extent (tile_height t) ≡ 2 * extent (tile_height c)
+extent-above : (t c : Tile) → t.level.number +ℤ pos 1 ≡ c.level.number → pos 0 ≤ℤ t.level.number
+    → extent (tile_height t) ≡ 2 * extent (tile_height c)
 extent-above t c e from =
     let above : tile_height t ≡ suc (tile_height c) = above_of t c e in
     let top : tile_height t ≤ 24 = height-from t.level.number from in
@@ -118,11 +122,15 @@ whole-fills t c below k p i =
     let above : tile_height t ≡ suc (tile_height c) = above_of t c k.level in
     let high : 25 ≤ tile_height t = height-below t.level.number below in
     let most = tile_height-most t in
-    let e : extent (tile_height t) ≡ extent (tile_height c) = ap extent above ∙ extent-coarse (tile_height c) (omega arith) (omega arith) in
+    let e : extent (tile_height t) ≡ extent (tile_height c) = ap extent above
+    ∙ extent-coarse (tile_height c) (omega arith) (omega arith) in
     in_cell t c c.up c.right p k.cell refl refl
-    (all_of _ t.up c.up (tile_side t) (step (tile_height t)) (tile_side c) (step (tile_height c)) p.north k.up e (i.south, i.north))
-    (all_of _ t.right c.right (tile_side t) (tile_step_east t) (tile_side c) (width_at (row_of t.cell.lat) * step (tile_height c)) p.east k.right
-    (wide-coarse (width_at (row_of t.cell.lat)) (tile_side t) (step (tile_height t)) (tile_side c) (step (tile_height c)) e) (i.west, i.east))
+    (all_of _ t.up c.up (tile_side t) (step (tile_height t)) (tile_side c) (step (tile_height c)) p.north k.up e
+    (i.south, i.north))
+    (all_of _ t.right c.right (tile_side t) (tile_step_east t) (tile_side c)
+    (width_at (row_of t.cell.lat) * step (tile_height c)) p.east k.right
+    (wide-coarse (width_at (row_of t.cell.lat)) (tile_side t) (step (tile_height t)) (tile_side c)
+    (step (tile_height c)) e) (i.west, i.east))
 
 -- the four children of a tile
 pub record AreQuarters (t sw se nw ne : Tile) : Type 0 where
@@ -133,19 +141,22 @@ pub record AreQuarters (t sw se nw ne : Tile) : Type 0 where
   pub north_east : IsQuarter t 1 1 ne
 
 -- the axes at the height of all four children, in each of them
-same_height : (t a c : Tile) → t.level.number +ℤ pos 1 ≡ a.level.number → t.level.number +ℤ pos 1 ≡ c.level.number → tile_height a ≡ tile_height c
+same_height : (t a c : Tile) → t.level.number +ℤ pos 1 ≡ a.level.number → t.level.number +ℤ pos 1 ≡ c.level.number
+    → tile_height a ≡ tile_height c
 same_height t a c e f = ap height_of (sym e ∙ f)
 
 -- the quarter that holds a place, by the halves
 in_quarter : (t a c : Tile) (i j : ℕ) (p : Place) → t.level.number +ℤ pos 1 ≡ a.level.number → IsQuarter t i j c
     → Axis (row_of t.cell.lat * degree) (2 * t.up + i) (tile_side a) (step (tile_height a)) p.north
-    → Axis (column_of t.cell.lon * degree) (2 * t.right + j) (tile_side a) (width_at (row_of t.cell.lat) * step (tile_height a)) p.east
+    → Axis (column_of t.cell.lon * degree) (2 * t.right + j) (tile_side a)
+    (width_at (row_of t.cell.lat) * step (tile_height a)) p.east
     → IsInTile c p
 in_quarter t a c i j p e k x y =
     let h : tile_height a ≡ tile_height c = same_height t a c e k.level in
     in_cell t c (2 * t.up + i) (2 * t.right + j) p k.cell k.up k.right
     (subst (λ g. Axis (row_of t.cell.lat * degree) (2 * t.up + i) (side_of g) (step g) p.north) h x)
-    (subst (λ g. Axis (column_of t.cell.lon * degree) (2 * t.right + j) (side_of g) (width_at (row_of t.cell.lat) * step g) p.east) h y)
+    (subst (λ g. Axis (column_of t.cell.lon * degree) (2 * t.right + j) (side_of g)
+    (width_at (row_of t.cell.lat) * step g) p.east) h y)
 
 -- a place of a tile is in one of its quarters
 pub quarters-fill : (t sw se nw ne : Tile) → AreQuarters t sw se nw ne → (p : Place) → IsInTile t p
@@ -154,8 +165,10 @@ quarters-fill t sw se nw ne q p i =
     let e : extent (tile_height t) ≡ 2 * extent (tile_height sw) = extent-above t sw q.south_west.level q.from in
     let l = q.south_west.level in
     let w : ℕ = width_at (row_of t.cell.lat) in
-    let n = halves (row_of t.cell.lat * degree) t.up (tile_side t) (step (tile_height t)) (tile_side sw) (step (tile_height sw)) p.north e (i.south, i.north) in
-    let m = halves (column_of t.cell.lon * degree) t.right (tile_side t) (tile_step_east t) (tile_side sw) (w * step (tile_height sw)) p.east
+    let n = halves (row_of t.cell.lat * degree) t.up (tile_side t) (step (tile_height t)) (tile_side sw)
+    (step (tile_height sw)) p.north e (i.south, i.north) in
+    let m = halves (column_of t.cell.lon * degree) t.right (tile_side t) (tile_step_east t) (tile_side sw)
+    (w * step (tile_height sw)) p.east
     (wide-fine w (tile_side t) (step (tile_height t)) (tile_side sw) (step (tile_height sw)) e) (i.west, i.east) in
     elim n [
       | inl a ↦ elim m [
@@ -169,7 +182,8 @@ quarters-fill t sw se nw ne q p i =
     ]
 
 -- two different quarters have no place in common
-quarters_apart : (t a b : Tile) (i j k l : ℕ) → IsQuarter t i j a → IsQuarter t k l b → ((i ≡ k) → (j ≡ l) → ⊥) → AreApart a b
+quarters_apart : (t a b : Tile) (i j k l : ℕ) → IsQuarter t i j a → IsQuarter t k l b
+    → ((i ≡ k) → (j ≡ l) → ⊥) → AreApart a b
 quarters_apart t a b i j k l x y differ p m n =
     let e : a ≡ b = one_tile a b p (x.family ∙ sym y.family) (sym x.level ∙ y.level) m n in
     let up : a.up ≡ b.up = ap (λ c. c.up) e in
@@ -181,7 +195,8 @@ quarters_apart t a b i j k l x y differ p m n =
 pairs_of_four : {X : Type 0} (R : X → X → Type 0) (a b c d : X) → R a b → R a c → R a d → R b c → R b d → R c d
     → AllPairs R (a ∷ b ∷ c ∷ d ∷ [])
 pairs_of_four R a b c d ab ac ad bc bd cd =
-    AllPairs-cons R a (b ∷ c ∷ d ∷ []) (All-cons (R a) b (c ∷ d ∷ []) ab (All-cons (R a) c (d ∷ []) ac (All-cons (R a) d [] ad (All-nil (R a)))))
+    AllPairs-cons R a (b ∷ c ∷ d ∷ [])
+    (All-cons (R a) b (c ∷ d ∷ []) ab (All-cons (R a) c (d ∷ []) ac (All-cons (R a) d [] ad (All-nil (R a)))))
     (AllPairs-cons R b (c ∷ d ∷ []) (All-cons (R b) c (d ∷ []) bc (All-cons (R b) d [] bd (All-nil (R b))))
     (AllPairs-cons R c (d ∷ []) (All-cons (R c) d [] cd (All-nil (R c)))
     (AllPairs-cons R d [] (All-nil (R d)) (λ i j e lt below. absurd (not_below j below)))))
@@ -200,7 +215,8 @@ quarters-apart t sw se nw ne q =
     (quarters_apart t se ne 0 1 1 1 b d (λ e f. omega arith))
     (quarters_apart t nw ne 1 0 1 1 c d (λ e f. omega arith))
 
-pub quarters-four : (t sw se nw ne : Tile) (items : List Tile) → items ≡ sw ∷ se ∷ nw ∷ ne ∷ [] → AreQuarters t sw se nw ne → HasFourChildren t items
+pub quarters-four : (t sw se nw ne : Tile) (items : List Tile) → items ≡ sw ∷ se ∷ nw ∷ ne ∷ []
+    → AreQuarters t sw se nw ne → HasFourChildren t items
 quarters-four t sw se nw ne items e q = record {
   south_west = sw;
   south_east = se;

@@ -16,7 +16,8 @@ use Rattle.cdb_grid.proofs.GridLaws.{same_place, next_multiple, quotient_of, cou
 use Rattle.cdb_grid.proofs.TileLaws.{tile_in_cell, tile_height-most, times_wide, part_within, row_of-below, column_of-below}
 
 -- the elements of a tile have the width of its geocell
-pub width_of-element : (t : Tile) (row col : ℕ) → row < tile_side t → width_of (element_corner t row col) ≡ width_at (row_of t.cell.lat)
+pub width_of-element : (t : Tile) (row col : ℕ) → row < tile_side t → width_of (element_corner t row col)
+    ≡ width_at (row_of t.cell.lat)
 unfolding width_of
 width_of-element t row col lt =
     let h : ℕ = tile_height t in
@@ -44,12 +45,14 @@ element_within t row col below under =
     along_inside h t.right col (tile_height-most t) t.right_in_range under in
     let wide : (t.right * side_of h + col + 1) * (w * step h) ≤ w * degree =
     times_wide w (t.right * side_of h + col + 1) (step h) degree (omega arith) in (
-      ends (row_of t.cell.lat) 1 180 _ (step h) (let lt = row_of-below t.cell.lat t.cell.north in omega arith) (omega arith),
+      ends (row_of t.cell.lat) 1 180 _ (step h) (let lt = row_of-below t.cell.lat t.cell.north in
+          omega arith) (omega arith),
       ends (column_of t.cell.lon) w 360 _ (w * step h) (columns_within t) (omega arith),
     )
   where
     ends : (base w all k s : ℕ) → base + w ≤ all → k + s ≤ w * degree → base * degree + k + s ≤ all * degree
-    ends base w all k s le inside = let m : (base + w) * degree ≤ all * degree = mul-le-mul_right degree le in omega arith
+    ends base w all k s le inside = let m : (base + w) * degree ≤ all * degree =
+        mul-le-mul_right degree le in omega arith
 
 -- the corners of a tile's elements are corners of its height
 pub element-corner : (t : Tile) (row col : ℕ) → row < tile_side t → col < tile_side t
@@ -68,7 +71,8 @@ element-corner t row col below under =
     record {
       on_row = dvd-add (step h) (dvd_trans (step h) d (dvd-mul_left degree (row_of t.cell.lat)))
           (dvd-mul_left (step h) (t.up * side_of h + row));
-      on_column = subst (λ n. n * step h ∣ (element_corner t row col).east) (sym (width_of-element t row col below)) east;
+      on_column = subst (λ n. n * step h ∣ (element_corner t row col).east)
+          (sym (width_of-element t row col below)) east;
       north_within = less _ (step h) (180 * degree) p within.0;
       east_within = less _ (w * step h) (360 * degree) r within.1;
     }
@@ -80,7 +84,8 @@ element-corner t row col below under =
     less k s n p le = omega arith
 
 -- a place less than a step beyond the corner of an element lies in the tile
-pub near_element : (t : Tile) (row col i j : ℕ) → row < tile_side t → col < tile_side t → i < step (tile_height t) → j < tile_step_east t
+pub near_element : (t : Tile) (row col i j : ℕ) → row < tile_side t → col < tile_side t → i < step (tile_height t)
+    → j < tile_step_east t
     → IsInTile t (record { north = (element_corner t row col).north + i; east = (element_corner t row col).east + j })
 near_element t row col i j below under up right =
     let n = part_within (row_of t.cell.lat * degree) t.up (tile_side t) row (step (tile_height t)) below in
@@ -99,12 +104,15 @@ near_element t row col i j below under up right =
     below_end a s b i lt le = omega arith
 
 -- the corners of a tile's elements lie in it
-pub corner-within : (t : Tile) (row col : ℕ) → row < tile_side t → col < tile_side t → IsInTile t (element_corner t row col)
+pub corner-within : (t : Tile) (row col : ℕ) → row < tile_side t → col < tile_side t
+    → IsInTile t (element_corner t row col)
 corner-within t row col below under =
     let h : ℕ = tile_height t in
     let up : 0 < step h = step-pos h in
-    let right : 0 < tile_step_east t = mul-lt 0 0 (width_at (row_of t.cell.lat)) (step h) (width-pos (row_of t.cell.lat)) up in
-    subst (λ p. IsInTile t p) (same_place _ _ (omega arith) (omega arith)) (near_element t row col 0 0 below under up right)
+    let right : 0 < tile_step_east t = mul-lt 0 0 (width_at (row_of t.cell.lat)) (step h)
+    (width-pos (row_of t.cell.lat)) up in
+    subst (λ p. IsInTile t p) (same_place _ _ (omega arith) (omega arith))
+    (near_element t row col 0 0 below under up right)
 
 -- half a step is less than a step
 pub inset-below : (f : Family) (h : ℕ) → 1 ≤ h → inset f h < step h
@@ -125,7 +133,8 @@ place-inset High h c = same_place _ _ (omega arith) (omega arith)
 place-inset Mat h c = same_place _ _ (omega arith) (omega arith)
 
 -- the place of an element lies in its tile
-pub place-in-tile : (t : Tile) (row col : ℕ) → row < tile_side t → col < tile_side t → IsInTile t (element_place t row col)
+pub place-in-tile : (t : Tile) (row col : ℕ) → row < tile_side t → col < tile_side t
+    → IsInTile t (element_place t row col)
 place-in-tile t row col below under =
     let h : ℕ = tile_height t in
     let c : Place = element_corner t row col in
@@ -133,7 +142,8 @@ place-in-tile t row col below under =
     let up : inset t.family h < step h = inset-below t.family h (height-least t.level.number t.level.finest) in
     let e : width_of c ≡ w = width_of-element t row col below in
     let right : width_of c * inset t.family h < w * step h =
-    subst (λ n. n * inset t.family h < w * step h) (sym e) (times-below w (inset t.family h) (step h) (width-pos (row_of t.cell.lat)) up) in
+    subst (λ n. n * inset t.family h < w * step h) (sym e)
+    (times-below w (inset t.family h) (step h) (width-pos (row_of t.cell.lat)) up) in
     subst (λ p. IsInTile t p) (sym (place-inset t.family h c))
     (near_element t row col (inset t.family h) (width_of c * inset t.family h) below under up right)
   where
@@ -198,7 +208,9 @@ one_element t p k i =
       col_below = b.below;
       at = same_place _ _ a.at b.at;
       only = λ r c below under e. (
-        same_index (row_of t.cell.lat * degree) (t.up * side_of h) (step h) r a.index sp (ap (λ q. q.north) e ∙ sym a.at),
-        same_index (column_of t.cell.lon * degree) (t.right * side_of h) (w * step h) c b.index ep (ap (λ q. q.east) e ∙ sym b.at),
+        same_index (row_of t.cell.lat * degree) (t.up * side_of h) (step h) r a.index sp
+            (ap (λ q. q.north) e ∙ sym a.at),
+        same_index (column_of t.cell.lon * degree) (t.right * side_of h) (w * step h) c b.index ep
+            (ap (λ q. q.east) e ∙ sym b.at),
       );
     }

@@ -139,7 +139,8 @@ pub child_corner : (h i j : ℕ) (c : Place) → h < 34 → i < 2 → j < 2 → 
 child_corner h i j c lt up right k =
     let fine : IsCorner h c = IsCorner_finer h (suc h) c (omega arith) k in
     let w : width_of (beside h c i j) ≡ width_of c = child_width h i j c lt up k in
-    let ends : (c.north + step (suc h) ≤ 180 * degree) × (c.east + step_east (suc h) c ≤ 360 * degree) = cell_within (suc h) c lt k in
+    let ends : (c.north + step (suc h) ≤ 180 * degree) × (c.east + step_east (suc h) c ≤ 360 * degree) =
+    cell_within (suc h) c lt k in
     let n : c.north + i * step h + step h ≤ c.north + step (suc h) = child_north h i c up in
     let e : c.east + j * step_east h c + step_east h c ≤ c.east + step_east (suc h) c = child_east h j c right in
     let p : 0 < step h = step-pos h in
@@ -162,7 +163,8 @@ in_parent h i j c q lt up right k inside =
     let w : width_of (beside h c i j) ≡ width_of c = child_width h i j c lt up k in
     let n : c.north + i * step h + step h ≤ c.north + step (suc h) = child_north h i c up in
     let e : c.east + j * step_east h c + step_east h c ≤ c.east + step_east (suc h) c = child_east h j c right in
-    let l : q.east < c.east + j * step_east h c + step_east h c = subst (λ n. q.east < c.east + j * step_east h c + n * step h) w inside.east in
+    let l : q.east < c.east + j * step_east h c + step_east h c =
+    subst (λ n. q.east < c.east + j * step_east h c + n * step h) w inside.east in
     let s = inside.south in let t = inside.north in let u = inside.west in
     record { south = omega arith; north = omega arith; west = omega arith; east = omega arith }
 
@@ -202,7 +204,8 @@ in_child h c q lt k inside =
         south = a.low;
         north = a.high;
         west = b.low;
-        east = subst (λ n. q.east < c.east + b.index * step_east h c + n * step h) (sym (child_width h a.index b.index c lt a.below k)) b.high;
+        east = subst (λ n. q.east < c.east + b.index * step_east h c + n * step h)
+            (sym (child_width h a.index b.index c lt a.below k)) b.high;
       };
     }
 

@@ -47,7 +47,8 @@ extent-fine h le =
 
 pub extent-coarse : (h : ℕ) → 24 ≤ h → h ≤ 33 → extent (suc h) ≡ extent h
 extent-coarse h low high =
-    ap (λ n. side_of (suc h) * n) (step-suc h) ∙ swap (side_of (suc h)) (step h) ∙ sym (ap (λ n. n * step h) (side-coarse h low high))
+    ap (λ n. side_of (suc h) * n) (step-suc h) ∙ swap (side_of (suc h)) (step h)
+    ∙ sym (ap (λ n. n * step h) (side-coarse h low high))
   where
     swap : (a s : ℕ) → a * (2 * s) ≡ 2 * a * s
     swap a s = omega arith
@@ -90,7 +91,8 @@ scale_of h u' le lt = elim (cases_lt h 24) [
   | inr p ↦ let e : tiles_of h ≡ 1 = tiles-coarse h p in inr (omega arith, extent-coarse h p le)
 ]
 
-scale_wide : (u' w w' side s side' s' : ℕ) → w ≡ w' → Scale u' (side * s) (side' * s') → Scale u' (side * (w * s)) (side' * (w' * s'))
+scale_wide : (u' w w' side s side' s' : ℕ) → w ≡ w' → Scale u' (side * s) (side' * s')
+    → Scale u' (side * (w * s)) (side' * (w' * s'))
 scale_wide u' w w' side s side' s' e scale = elim scale [
   | inl p ↦ let m : w' * (side * s) ≡ w' * (2 * (side' * s')) = ap (λ x. w' * x) p in
       inl (ap (λ x. side * (x * s)) e ∙ (omega arith))
@@ -99,14 +101,16 @@ scale_wide u' w w' side s side' s' e scale = elim scale [
 ]
 
 -- a place in a child is in the tile of half its index
-up_axis : (b u' side s side' s' n : ℕ) → Scale u' (side * s) (side' * s') → Axis b u' side' s' n → Axis b (u' / 2) side s n
+up_axis : (b u' side s side' s' n : ℕ) → Scale u' (side * s) (side' * s') → Axis b u' side' s' n
+    → Axis b (u' / 2) side s n
 up_axis b u' side s side' s' n scale a =
     let low = a.0 in let high = a.1 in
     elim scale [
       | inl e ↦
           let q : u' / 2 * (side * s) ≡ u' / 2 * (2 * (side' * s')) = ap (λ x. u' / 2 * x) e in
           let m : u' / 2 * 2 * (side' * s') ≤ u' * (side' * s') = mul-le-mul_right (side' * s') (omega arith) in
-          let k : suc u' * (side' * s') ≤ (u' / 2 * 2 + 2) * (side' * s') = mul-le-mul_right (side' * s') (omega arith) in
+          let k : suc u' * (side' * s') ≤ (u' / 2 * 2 + 2) * (side' * s') =
+          mul-le-mul_right (side' * s') (omega arith) in
           (omega arith, omega arith)
       | inr p ↦
           let e = p.1 in
@@ -127,13 +131,18 @@ is_parent c p ef ec el eu er = record {
   family = ef;
   coarser = el;
   holds = λ q i.
-      let n = up_axis (row_of c.cell.lat * degree) c.up (tile_side p) (step (tile_height p)) (tile_side c) (step (tile_height c)) q.north
+      let n = up_axis (row_of c.cell.lat * degree) c.up (tile_side p) (step (tile_height p)) (tile_side c)
+      (step (tile_height c)) q.north
       (scale c.up c.up_in_range) (i.south, i.north) in
-      let e = up_axis (column_of c.cell.lon * degree) c.right (tile_side p) (tile_step_east p) (tile_side c) (tile_step_east c) q.east
-      (scale_wide c.right (width_at (row_of p.cell.lat)) (width_at (row_of c.cell.lat)) (tile_side p) (step (tile_height p)) (tile_side c) (step (tile_height c))
+      let e = up_axis (column_of c.cell.lon * degree) c.right (tile_side p) (tile_step_east p) (tile_side c)
+      (tile_step_east c) q.east
+      (scale_wide c.right (width_at (row_of p.cell.lat)) (width_at (row_of c.cell.lat)) (tile_side p)
+      (step (tile_height p)) (tile_side c) (step (tile_height c))
       (ap (λ x. width_at (row_of x.lat)) ec) (scale c.right c.right_in_range)) (i.west, i.east) in
-      let n' = axis_same (row_of p.cell.lat * degree) _ p.up _ (tile_side p) (step (tile_height p)) q.north (ap (λ x. row_of x.lat * degree) ec) eu n in
-      let e' = axis_same (column_of p.cell.lon * degree) _ p.right _ (tile_side p) (tile_step_east p) q.east (ap (λ x. column_of x.lon * degree) ec) er e in
+      let n' = axis_same (row_of p.cell.lat * degree) _ p.up _ (tile_side p) (step (tile_height p))
+      q.north (ap (λ x. row_of x.lat * degree) ec) eu n in
+      let e' = axis_same (column_of p.cell.lon * degree) _ p.right _ (tile_side p) (tile_step_east p)
+      q.east (ap (λ x. column_of x.lon * degree) ec) er e in
       record { south = n'.0; north = n'.1; west = e'.0; east = e'.1 };
 }
   where
@@ -142,7 +151,8 @@ is_parent c p ef ec el eu er = record {
 
     scale : (u : ℕ) → u < tiles_of (tile_height c) → Scale u (extent (tile_height p)) (extent (tile_height c))
     scale u lt = let most = tile_height-most p in
-        subst (λ h. Scale u (extent h) (extent (tile_height c))) (sym above) (scale_of (tile_height c) u (let e = above in omega arith) lt)
+        subst (λ h. Scale u (extent h) (extent (tile_height c))) (sym above)
+        (scale_of (tile_height c) u (let e = above in omega arith) lt)
 
 -- a tile has its south-west corner
 pub corner-in-tile : (t : Tile) → IsInTile t (element_corner t 0 0)
@@ -151,7 +161,8 @@ corner-in-tile t =
     let n = part_within (row_of t.cell.lat * degree) t.up (tile_side t) 0 (step h) (side-pos h) in
     let e = part_within (column_of t.cell.lon * degree) t.right (tile_side t) 0 (tile_step_east t) (side-pos h) in
     let p : 0 < step h = step-pos h in
-    let q : 1 * 1 ≤ tile_step_east t = mul-le 1 1 (width_at (row_of t.cell.lat)) (step h) (width-pos (row_of t.cell.lat)) p in
+    let q : 1 * 1 ≤ tile_step_east t = mul-le 1 1 (width_at (row_of t.cell.lat)) (step h)
+    (width-pos (row_of t.cell.lat)) p in
     record { south = n.0; north = below _ (step h) _ p n.1; west = e.0; east = below _ (tile_step_east t) _ q e.1 }
   where
     below : (a s b : ℕ) → 1 ≤ s → a + s ≤ b → a < b
@@ -199,9 +210,11 @@ parent-halved c p k =
     (mul-le 1 1 w (step h) (width-pos (row_of c.cell.lat)) (step-pos h)) in
     record {
       cell = ec;
-      up = axis_from (row_of p.cell.lat * degree) (row_of c.cell.lat * degree) p.up c.up (tile_side p) (step (tile_height p)) (side_of h) (step h)
+      up = axis_from (row_of p.cell.lat * degree) (row_of c.cell.lat * degree) p.up c.up (tile_side p)
+          (step (tile_height p)) (side_of h) (step h)
           (ap (λ x. row_of x.lat * degree) ec) (extent-pos h) (scale c.up c.up_in_range) (j.south, j.north);
-      right = axis_from (column_of p.cell.lon * degree) (column_of c.cell.lon * degree) p.right c.right (tile_side p) (tile_step_east p) (side_of h) (tile_step_east c)
+      right = axis_from (column_of p.cell.lon * degree) (column_of c.cell.lon * degree) p.right c.right (tile_side p)
+          (tile_step_east p) (side_of h) (tile_step_east c)
           (ap (λ x. column_of x.lon * degree) ec) wide
           (scale_wide c.right (width_at (row_of p.cell.lat)) w (tile_side p) (step (tile_height p)) (side_of h) (step h)
           (ap (λ x. width_at (row_of x.lat)) ec) (scale c.right c.right_in_range)) (j.west, j.east);
@@ -213,7 +226,8 @@ parent-halved c p k =
 
     scale : (u : ℕ) → u < tiles_of (tile_height c) → Scale u (extent (tile_height p)) (extent (tile_height c))
     scale u lt = let most = tile_height-most p in
-        subst (λ h. Scale u (extent h) (extent (tile_height c))) (sym above) (scale_of (tile_height c) u (let e = above in omega arith) lt)
+        subst (λ h. Scale u (extent h) (extent (tile_height c))) (sym above)
+        (scale_of (tile_height c) u (let e = above in omega arith) lt)
 
 -- a tile has one parent
 pub one_parent : (c p q : Tile) → IsParent c p → IsParent c q → p ≡ q

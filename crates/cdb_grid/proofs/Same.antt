@@ -24,7 +24,8 @@ same_level a b e =
     subst P e start (b.coarsest, b.finest)
 
 abbrev CellFacts : ℤ → ℤ → Type 0
-CellFacts y x = (negsuc 89 ≤ℤ y) × (y ≤ℤ pos 89) × (negsuc 179 ≤ℤ x) × (x ≤ℤ pos 179) × (column_of x % width_at (row_of y) ≡ 0)
+CellFacts y x = (negsuc 89 ≤ℤ y) × (y ≤ℤ pos 89) × (negsuc 179 ≤ℤ x) × (x ≤ℤ pos 179)
+    × (column_of x % width_at (row_of y) ≡ 0)
 
 cell_of : (y x : ℤ) → CellFacts y x → Geocell
 cell_of y x f = record { lat = y; lon = x; south = f.0; north = f.1; west = f.2; east = f.3; on_grid = f.4 }
@@ -45,7 +46,8 @@ abbrev TileFacts : Level → ℕ → ℕ → Type 0
 TileFacts l u r = (u < tiles_of (height_of l.number)) × (r < tiles_of (height_of l.number))
 
 tile_of : (f : Family) (c : Geocell) (l : Level) (u r : ℕ) → TileFacts l u r → Tile
-tile_of f c l u r g = record { family = f; cell = c; level = l; up = u; right = r; up_in_range = g.0; right_in_range = g.1 }
+tile_of f c l u r g =
+    record { family = f; cell = c; level = l; up = u; right = r; up_in_range = g.0; right_in_range = g.1 }
 
 tile_facts : (l : Level) (u r : ℕ) → IsProp (TileFacts l u r)
 tile_facts l u r = hlevel props

@@ -14,7 +14,8 @@ use Rattle.cdb_grid.proofs.PyramidLaws.{IsHalved, parent-halved, side-fine, side
 abbrev pub spot_at : ℕ → ℕ → ℕ
 spot_at u side = u % 2 * (side / 2)
 
--- a tile's own side and that of its parent, by the tile's index: the same from level 1 on, else the tile is alone and its side is twice that of its parent
+-- a tile's own side and that of its parent, by the tile's index: the same from level 1 on, else the tile is alone and
+-- its side is twice that of its parent
 abbrev Sides : ℕ → ℕ → ℕ → Type 0
 Sides u side up = ((side ≡ 1024) × (up ≡ 1024)) ⊎ ((u ≡ 0) × (side ≡ 2 * up))
 
@@ -50,7 +51,8 @@ spot-fits h u le lt = elim (sides_of h u le lt) [
     alone e f = rw e (omega arith)
 
 -- the same in units, along one axis
-units_at : (b u side up s t : ℕ) → Sides u side up → t ≡ 2 * s → b + (u / 2 * up + spot_at u side) * t ≡ b + (u * side + 0) * s
+units_at : (b u side up s t : ℕ) → Sides u side up → t ≡ 2 * s → b + (u / 2 * up + spot_at u side) * t
+    ≡ b + (u * side + 0) * s
 units_at b u side up s t k e =
     let steps : 2 * (u / 2 * up + spot_at u side) * s ≡ u * side * s = ap (λ x. x * s) (steps_at u side up k) in
     ap (λ x. b + (u / 2 * up + spot_at u side) * x) e ∙ regroup (u / 2 * up + spot_at u side) steps
@@ -75,8 +77,10 @@ spot-begins c p k =
     (ap (λ x. north (row_of x.lat * degree) p.up (tile_height p)) i.cell
     ∙ ap (λ x. north (row_of c.cell.lat * degree) x (tile_height p)) i.up
     ∙ ap (north (row_of c.cell.lat * degree) (c.up / 2)) above
-    ∙ units_at (row_of c.cell.lat * degree) c.up (side_of h) (side_of (suc h)) (step h) (step (suc h)) (sides_of h c.up le c.up_in_range) (step-suc h))
+    ∙ units_at (row_of c.cell.lat * degree) c.up (side_of h) (side_of (suc h)) (step h) (step (suc h))
+    (sides_of h c.up le c.up_in_range) (step-suc h))
     (ap (λ x. east (column_of x.lon * degree) (width_at (row_of x.lat)) p.right (tile_height p)) i.cell
     ∙ ap (λ x. east (column_of c.cell.lon * degree) w x (tile_height p)) i.right
     ∙ ap (east (column_of c.cell.lon * degree) w (c.right / 2)) above
-    ∙ units_at (column_of c.cell.lon * degree) c.right (side_of h) (side_of (suc h)) (w * step h) (w * step (suc h)) (sides_of h c.right le c.right_in_range) wide)
+    ∙ units_at (column_of c.cell.lon * degree) c.right (side_of h) (side_of (suc h)) (w * step h) (w * step (suc h))
+    (sides_of h c.right le c.right_in_range) wide)

@@ -44,7 +44,8 @@ multiple_below x v w e p =
     ap (λ n. (x - x % v) % n) (sym e) ∙ ap (λ n. n % v) m ∙ mul-mod_left (x / v) v
 
 -- two columns of one width whose geocells share a place are one
-one_column : (w a b e : ℕ) → w ∣ a → w ∣ b → a * degree ≤ e → e < (a + w) * degree → b * degree ≤ e → e < (b + w) * degree → a ≡ b
+one_column : (w a b e : ℕ) → w ∣ a → w ∣ b → a * degree ≤ e → e < (a + w) * degree → b * degree ≤ e
+    → e < (b + w) * degree → a ≡ b
 one_column w a b e d f al ah bl bh =
     elim (cases_lt a b) [
       | inl p ↦ let q : a + w ≤ b = next_multiple w a b d f p in omega arith
@@ -63,7 +64,8 @@ one_geocell a b p i j =
     let e : row_of b.lat ≡ row_of a.lat = sym rb ∙ ra in
     let w : ℕ = width_at (row_of a.lat) in
     let db : column_of b.lon % w ≡ 0 = subst (λ r. column_of b.lon % width_at r ≡ 0) e b.on_grid in
-    let eb : p.east < (column_of b.lon + w) * degree = subst (λ r. p.east < (column_of b.lon + width_at r) * degree) e j.east in
+    let eb : p.east < (column_of b.lon + w) * degree =
+    subst (λ r. p.east < (column_of b.lon + width_at r) * degree) e j.east in
     let c : column_of a.lon ≡ column_of b.lon = one_column w (column_of a.lon) (column_of b.lon) p.east
     (dvd_of_mod-eq-zero w a.on_grid) (dvd_of_mod-eq-zero w db) i.west i.east j.west eb in
     same_geocell a b (row_of-same a.lat b.lat a.south b.south (sym e)) (column_of-same a.lon b.lon a.west b.west c)
@@ -74,14 +76,16 @@ tile_height-most t = height-most t.level.number t.level.coarsest
 
 -- the steps of an index stand in the part that its tile takes
 pub part_within : (base u side k s : ℕ) → k < side
-    → (base + (u * side + 0) * s ≤ base + (u * side + k) * s) × (base + (u * side + k) * s + s ≤ base + (u * side + side) * s)
+    → (base + (u * side + 0) * s ≤ base + (u * side + k) * s)
+    × (base + (u * side + k) * s + s ≤ base + (u * side + side) * s)
 part_within base u side k s lt =
     let low : (u * side + 0) * s ≤ (u * side + k) * s = mul-le-mul_right s (omega arith) in
     let high : (u * side + k + 1) * s ≤ (u * side + side) * s = mul-le-mul_right s (omega arith) in
     (omega arith, omega arith)
 
 -- the number of the part that holds a place
-part_of : (base u side s n : ℕ) → base + (u * side + 0) * s ≤ n → n < base + (u * side + side) * s → (n - base) / (side * s) ≡ u
+part_of : (base u side s n : ℕ) → base + (u * side + 0) * s ≤ n → n < base + (u * side + side) * s
+    → (n - base) / (side * s) ≡ u
 part_of base u side s n low high = quotient_of u (side * s) (n - base) (omega arith) (omega arith)
 
 -- the part of the steps that an index takes ends within the degree
@@ -89,7 +93,8 @@ pub part_inside : (h u : ℕ) → h ≤ 34 → u < tiles_of h → (u * side_of h
 part_inside h u le lt =
     let whole : tiles_of h * side_of h * step h ≡ degree = all_rows h le in
     let rows : suc u * side_of h ≤ tiles_of h * side_of h = mul-le-mul_right (side_of h) lt in
-    let steps : (u * side_of h + side_of h) * step h ≤ tiles_of h * side_of h * step h = mul-le-mul_right (step h) (omega arith) in
+    let steps : (u * side_of h + side_of h) * step h ≤ tiles_of h * side_of h * step h =
+    mul-le-mul_right (step h) (omega arith) in
     omega arith
 
 -- as many units, so many times as wide
@@ -102,8 +107,10 @@ tile_in_cell t p i =
     let h : ℕ = tile_height t in
     let w : ℕ = width_at (row_of t.cell.lat) in
     let up : (t.up * side_of h + side_of h) * step h ≤ degree = part_inside h t.up (tile_height-most t) t.up_in_range in
-    let right : (t.right * side_of h + side_of h) * step h ≤ degree = part_inside h t.right (tile_height-most t) t.right_in_range in
-    let wide : (t.right * side_of h + side_of h) * (w * step h) ≤ w * degree = times_wide w (t.right * side_of h + side_of h) (step h) degree right in
+    let right : (t.right * side_of h + side_of h) * step h ≤ degree =
+    part_inside h t.right (tile_height-most t) t.right_in_range in
+    let wide : (t.right * side_of h + side_of h) * (w * step h) ≤ w * degree =
+    times_wide w (t.right * side_of h + side_of h) (step h) degree right in
     let s = i.south in let n = i.north in let a = i.west in let b = i.east in
     record {
       south = from_above (row_of t.cell.lat * degree) _ p.north s;
@@ -119,7 +126,8 @@ tile_in_cell t p i =
     below_sum row w k n lt le = omega arith
 
 -- a place lies in one tile of a family and a level
-pub one_tile : (a b : Tile) (p : Place) → a.family ≡ b.family → a.level.number ≡ b.level.number → IsInTile a p → IsInTile b p → a ≡ b
+pub one_tile : (a b : Tile) (p : Place) → a.family ≡ b.family → a.level.number ≡ b.level.number → IsInTile a p
+    → IsInTile b p → a ≡ b
 one_tile a b p ef el i j =
     let ec : a.cell ≡ b.cell = one_geocell a.cell b.cell p (tile_in_cell a p i) (tile_in_cell b p j) in
     let eh : tile_height a ≡ tile_height b = ap height_of el in
@@ -132,7 +140,8 @@ one_tile a b p ef el i j =
     let rb : (p.east - column_of b.cell.lon * degree) / (tile_side b * tile_step_east b) ≡ b.right =
     part_of (column_of b.cell.lon * degree) b.right (tile_side b) (tile_step_east b) p.east j.west j.east in
     let up_at : Geocell → ℕ → ℕ = λ c h. (p.north - row_of c.lat * degree) / (side_of h * step h) in
-    let right_at : Geocell → ℕ → ℕ = λ c h. (p.east - column_of c.lon * degree) / (side_of h * (width_at (row_of c.lat) * step h)) in
+    let right_at : Geocell → ℕ
+    → ℕ = λ c h. (p.east - column_of c.lon * degree) / (side_of h * (width_at (row_of c.lat) * step h)) in
     same_tile a b ef ec el
     (sym ua ∙ ap (λ c. up_at c (tile_height a)) ec ∙ ap (up_at b.cell) eh ∙ ub)
     (sym ra ∙ ap (λ c. right_at c (tile_height a)) ec ∙ ap (right_at b.cell) eh ∙ rb)

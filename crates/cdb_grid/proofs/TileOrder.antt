@@ -46,7 +46,8 @@ same_by_order s t h =
     let l = both (int_eq s.level.number t.level.number) _ b.1 in
     let u = both (nat_eq s.up t.up) (nat_eq s.right t.right) l.1 in
     same_tile s t (same_true the_type (search rules) s.family t.family a.0)
-    (same_geocell s.cell t.cell ((Decides-int_eq s.cell.lat t.cell.lat).0 p.0) ((Decides-int_eq s.cell.lon t.cell.lon).0 p.1))
+    (same_geocell s.cell t.cell ((Decides-int_eq s.cell.lat t.cell.lat).0 p.0)
+    ((Decides-int_eq s.cell.lon t.cell.lon).0 p.1))
     ((Decides-int_eq s.level.number t.level.number).0 l.0) (eqb-true _ _ u.0) (eqb-true _ _ u.1)
 
 pub same_of_equal : (s t : Tile) → tile_cmp s t ≡ Equal → s ≡ t
@@ -104,7 +105,9 @@ precedes tiles i k s t ordered at_i at_k less = of (order_of i k)
     of (inr (inr l)) =
         let C : Tile → Type 0 = λ u. tile_cmp u (get_or tiles i s) ≡ Less in
         let D : Tile → Type 0 = λ u. tile_cmp t u ≡ Less in
-        absurd (not_both s t less (subst D (get_or_from_slice_get tiles i s s at_i) (subst C (get_or_from_slice_get tiles k t s at_k) (ordered k i s l (within tiles i s at_i)))))
+        absurd (not_both s t less
+        (subst D (get_or_from_slice_get tiles i s s at_i)
+        (subst C (get_or_from_slice_get tiles k t s at_k) (ordered k i s l (within tiles i s at_i)))))
 
 -- ---- finer tiles come first, and families in their order
 
@@ -116,7 +119,8 @@ rest_cmp =
     (then_cmp (on (λ t. t.up) nat_cmp)
     (on (λ t. t.right) nat_cmp)))
 
-by_level : (f : Family) (o rest : Ordering) → o ≡ Less → ordering_then (nat_cmp (family_rank f) (family_rank f)) (ordering_then o rest) ≡ Less
+by_level : (f : Family) (o rest : Ordering) → o ≡ Less → ordering_then (nat_cmp (family_rank f) (family_rank f))
+    (ordering_then o rest) ≡ Less
 by_level Elev o rest e = ap (λ r. ordering_then r rest) e
 by_level Low o rest e = ap (λ r. ordering_then r rest) e
 by_level High o rest e = ap (λ r. ordering_then r rest) e
@@ -125,13 +129,17 @@ by_level Mat o rest e = ap (λ r. ordering_then r rest) e
 pub child_before : (c t : Tile) → IsParent c t → tile_cmp c t ≡ Less
 child_before c t p =
     let finer : t.level.number <ℤ c.level.number = let e = p.coarser in omega (arith, ints) in
-    let less : int_cmp t.level.number c.level.number ≡ Less = sym (int_cmp_is t.level.number c.level.number Less finer) in
-    subst (λ (g : Family). ordering_then (nat_cmp (family_rank c.family) (family_rank g)) (ordering_then (int_cmp t.level.number c.level.number) (rest_cmp c t)) ≡ Less) (sym p.family)
+    let less : int_cmp t.level.number c.level.number ≡ Less =
+    sym (int_cmp_is t.level.number c.level.number Less finer) in
+    subst (λ (g : Family). ordering_then (nat_cmp (family_rank c.family) (family_rank g))
+    (ordering_then (int_cmp t.level.number c.level.number) (rest_cmp c t)) ≡ Less) (sym p.family)
     (by_level c.family (int_cmp t.level.number c.level.number) (rest_cmp c t) less)
 
 -- elevations come before the least and the greatest ones of each level
 pub elevation_first : (s t : Tile) → s.family ≡ Elev → (t.family ≡ Low) ⊎ (t.family ≡ High) → tile_cmp s t ≡ Less
-elevation_first s t e f = subst (λ (g : Family). ordering_then (nat_cmp (family_rank g) (family_rank t.family)) (rest s t) ≡ Less) (sym e) (by f)
+elevation_first s t e f =
+    subst (λ (g : Family). ordering_then (nat_cmp (family_rank g) (family_rank t.family)) (rest s t) ≡ Less) (sym e)
+    (by f)
   where
     rest : Tile → Tile → Ordering
     rest a b = ordering_then (int_cmp b.level.number a.level.number) (rest_cmp a b)

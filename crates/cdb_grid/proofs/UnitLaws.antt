@@ -73,7 +73,8 @@ along_inside h tile index le below under =
     let whole : tiles_of h * side_of h * step h ≡ degree = all_rows h le in
     let rows : suc tile * side_of h ≤ tiles_of h * side_of h = mul-le-mul_right (side_of h) below in
     let last : tile * side_of h + index + 1 ≤ tiles_of h * side_of h = omega arith in
-    let steps : (tile * side_of h + index + 1) * step h ≤ tiles_of h * side_of h * step h = mul-le-mul_right (step h) last in
+    let steps : (tile * side_of h + index + 1) * step h ≤ tiles_of h * side_of h * step h =
+    mul-le-mul_right (step h) last in
     omega arith
 
 -- the one number of which a is a multiple by d is their quotient
@@ -101,7 +102,8 @@ tiles-pos h = pow_pos (24 - h)
 pub extent-le : (h : ℕ) → h ≤ 34 → side_of h * step h ≤ degree
 extent-le h le =
     let e : tiles_of h * side_of h * step h ≡ degree = all_rows h le in
-    let m : 1 * (side_of h * step h) ≤ tiles_of h * (side_of h * step h) = mul-le-mul_right (side_of h * step h) (tiles-pos h) in
+    let m : 1 * (side_of h * step h) ≤ tiles_of h * (side_of h * step h) = mul-le-mul_right (side_of h * step h)
+    (tiles-pos h) in
     omega arith
 
 pub extent-pos : (h : ℕ) → 1 ≤ side_of h * step h

@@ -56,10 +56,12 @@ swapped false lon true rest = refl
 swapped false lon false rest = refl
 
 -- one result of five comparisons in turn
-chain : (f l y x u r : Ordering) → is_eq (ordering_then f (ordering_then l (ordering_then y (ordering_then x (ordering_then u r)))))
+chain : (f l y x u r : Ordering)
+    → is_eq (ordering_then f (ordering_then l (ordering_then y (ordering_then x (ordering_then u r)))))
     ≡ (is_eq f && (is_eq l && (is_eq y && (is_eq x && (is_eq u && is_eq r)))))
 chain f l y x u r =
-    is_eq-then f _ ∙ ap (λ b. is_eq f && b) (is_eq-then l _ ∙ ap (λ b. is_eq l && b) (is_eq-then y _ ∙ ap (λ b. is_eq y && b)
+    is_eq-then f _
+    ∙ ap (λ b. is_eq f && b) (is_eq-then l _ ∙ ap (λ b. is_eq l && b) (is_eq-then y _ ∙ ap (λ b. is_eq y && b)
     (is_eq-then x _ ∙ ap (λ b. is_eq x && b) (is_eq-then u r))))
 
 -- two tiles are equal by `==` exactly where neither stands before the other
@@ -79,9 +81,12 @@ tile_ties s t =
     ∙ ap (λ b. all b level up right) (family_ties s.family t.family)
     ∙ ap (λ b. all (is_eq (nat_cmp (family_rank s.family) (family_rank t.family))) b up right)
     (int_eq_equiv.symm s.level.number t.level.number)
-    ∙ ap (λ b. all (is_eq (nat_cmp (family_rank s.family) (family_rank t.family))) (int_eq t.level.number s.level.number) b right)
+    ∙ ap (λ b. all (is_eq (nat_cmp (family_rank s.family) (family_rank t.family)))
+    (int_eq t.level.number s.level.number) b right)
     (unsigned_ties s.up t.up)
-    ∙ ap (λ b. all (is_eq (nat_cmp (family_rank s.family) (family_rank t.family))) (int_eq t.level.number s.level.number) (is_eq (nat_cmp s.up t.up)) b)
+    ∙ ap (λ b. all (is_eq (nat_cmp (family_rank s.family) (family_rank t.family)))
+    (int_eq t.level.number s.level.number) (is_eq (nat_cmp s.up t.up)) b)
     (unsigned_ties s.right t.right)
-    ∙ sym (chain (nat_cmp (family_rank s.family) (family_rank t.family)) (int_cmp t.level.number s.level.number) (int_cmp s.cell.lat t.cell.lat)
+    ∙ sym (chain (nat_cmp (family_rank s.family) (family_rank t.family)) (int_cmp t.level.number s.level.number)
+    (int_cmp s.cell.lat t.cell.lat)
     (int_cmp s.cell.lon t.cell.lon) (nat_cmp s.up t.up) (nat_cmp s.right t.right))

@@ -38,7 +38,9 @@ same_family Mat Mat e = refl
 -- the same bytes have one tile
 pub one_tile : (bytes : List ℕ) (a b : Tile) → HasTileFields bytes a → HasTileFields bytes b → a ≡ b
 one_tile bytes a b h g =
-    same_tile a b (same_family a.family b.family (sym h.family ∙ g.family)) (same_geocell a.cell b.cell (sym h.lat ∙ g.lat) (sym h.lon ∙ g.lon)) (sym h.level ∙ g.level) (sym h.up ∙ g.up) (sym h.right ∙ g.right)
+    same_tile a b (same_family a.family b.family (sym h.family ∙ g.family))
+    (same_geocell a.cell b.cell (sym h.lat ∙ g.lat) (sym h.lon ∙ g.lon)) (sym h.level ∙ g.level) (sym h.up ∙ g.up)
+    (sym h.right ∙ g.right)
 
 -- ---- an entry that was written
 
@@ -67,11 +69,13 @@ written_has tile =
       level = level_again tile.level;
       lat = to_z-of_z w8 cell.lat (lat_fits cell.lat cell.south cell.north);
       zero_3 = refl;
-      lon = ap (cast_signed w16) (from_be_bytes-to_be_bytes_2 (cast_unsigned w16 cell.lon) lon.1) ∙ to_z-of_z w16 cell.lon lon.0;
+      lon = ap (cast_signed w16) (from_be_bytes-to_be_bytes_2 (cast_unsigned w16 cell.lon) lon.1)
+          ∙ to_z-of_z w16 cell.lon lon.0;
       zero_6 = refl;
       zero_7 = refl;
       up = from_be_bytes-to_be_bytes_4 tile.up (number_fits (height_of tile.level.number) tile.up tile.up_in_range);
-      right = from_be_bytes-to_be_bytes_4 tile.right (number_fits (height_of tile.level.number) tile.right tile.right_in_range);
+      right = from_be_bytes-to_be_bytes_4 tile.right (number_fits (height_of tile.level.number)
+          tile.right tile.right_in_range);
     }
 
 pub has_tile : (bytes : List ℕ) (tile : Tile) → bytes ≡ entry_text tile → HasTileFields bytes tile
@@ -83,25 +87,33 @@ length-entry_text tile = refl
 
 pub entry_cancel : (a b : Tile) (x y : List ℕ) → entry_text a ++ x ≡ entry_text b ++ y → (a ≡ b) × (x ≡ y)
 entry_cancel a b x y e =
-    let texts : entry_text a ≡ entry_text b = sym (take_at (entry_text a) x 16 (length-entry_text a)) ∙ ap (take 16) e ∙ take_at (entry_text b) y 16 (length-entry_text b) in
-    let rests : x ≡ y = sym (drop_at (entry_text a) x 16 (length-entry_text a)) ∙ ap (drop 16) e ∙ drop_at (entry_text b) y 16 (length-entry_text b) in
+    let texts : entry_text a ≡ entry_text b = sym (take_at (entry_text a) x 16 (length-entry_text a)) ∙ ap (take 16) e
+    ∙ take_at (entry_text b) y 16 (length-entry_text b) in
+    let rests : x ≡ y = sym (drop_at (entry_text a) x 16 (length-entry_text a)) ∙ ap (drop 16) e
+    ∙ drop_at (entry_text b) y 16 (length-entry_text b) in
     (one_tile (entry_text a) a b (has_tile (entry_text a) a refl) (has_tile (entry_text a) b texts), rests)
 
 -- ---- an entry that was read
 
-lon_are : (bytes : List ℕ) (z : ℤ) → IsBytes bytes → 6 ≤ length bytes → cast_signed w16 (from_be_bytes w16 (take 2 (drop 4 bytes))) ≡ z → to_be_bytes w16 (cast_unsigned w16 z) ≡ take 2 (drop 4 bytes)
+lon_are : (bytes : List ℕ) (z : ℤ) → IsBytes bytes → 6 ≤ length bytes
+    → cast_signed w16 (from_be_bytes w16 (take 2 (drop 4 bytes))) ≡ z → to_be_bytes w16 (cast_unsigned w16 z)
+    ≡ take 2 (drop 4 bytes)
 lon_are bytes z fits room is =
     let part_fits = IsBytes-take 2 (drop 4 bytes) (IsBytes-drop 4 bytes fits) in
     let two : length (take 2 (drop 4 bytes)) ≡ 2 = omega (arith, length-take 2 (drop 4 bytes), length-drop 4 bytes) in
     let below : from_be_bytes w16 (take 2 (drop 4 bytes)) < 2 ^ 16 = omega (arith, part_fits 0, part_fits 1) in
-    let back : cast_unsigned w16 z ≡ from_be_bytes w16 (take 2 (drop 4 bytes)) = ap (cast_unsigned w16) (sym is) ∙ of_z-to_z w16 (from_be_bytes w16 (take 2 (drop 4 bytes))) below in
+    let back : cast_unsigned w16 z ≡ from_be_bytes w16 (take 2 (drop 4 bytes)) = ap (cast_unsigned w16) (sym is)
+    ∙ of_z-to_z w16 (from_be_bytes w16 (take 2 (drop 4 bytes))) below in
     be_bytes_2 (take 2 (drop 4 bytes)) (cast_unsigned w16 z) two part_fits back
 
-pub entry_is : (bytes : List ℕ) (tile : Tile) → length bytes ≡ 16 → IsBytes bytes → HasTileFields bytes tile → bytes ≡ entry_text tile
+pub entry_is : (bytes : List ℕ) (tile : Tile) → length bytes ≡ 16 → IsBytes bytes → HasTileFields bytes tile
+    → bytes ≡ entry_text tile
 unfolding entry_text
 entry_is bytes tile len fits h =
-    let level : get_or bytes 1 0 ≡ cast_unsigned w8 tile.level.number = sym (of_z-to_z w8 (get_or bytes 1 0) (fits 1)) ∙ ap (cast_unsigned w8) h.level in
-    let lat : get_or bytes 2 0 ≡ cast_unsigned w8 tile.cell.lat = sym (of_z-to_z w8 (get_or bytes 2 0) (fits 2)) ∙ ap (cast_unsigned w8) h.lat in
+    let level : get_or bytes 1 0 ≡ cast_unsigned w8 tile.level.number = sym (of_z-to_z w8 (get_or bytes 1 0) (fits 1))
+    ∙ ap (cast_unsigned w8) h.level in
+    let lat : get_or bytes 2 0 ≡ cast_unsigned w8 tile.cell.lat = sym (of_z-to_z w8 (get_or bytes 2 0) (fits 2))
+    ∙ ap (cast_unsigned w8) h.lat in
     let d0 : bytes ≡ get_or bytes 0 0 ∷ drop 1 bytes = drop_more bytes 0 0 (omega arith) in
     let d1 : drop 1 bytes ≡ get_or bytes 1 0 ∷ drop 2 bytes = drop_more bytes 1 0 (omega arith) in
     let d2 : drop 2 bytes ≡ get_or bytes 2 0 ∷ drop 3 bytes = drop_more bytes 2 0 (omega arith) in
@@ -114,24 +126,34 @@ entry_is bytes tile len fits h =
     let e16 : drop 16 bytes ≡ [] = drop_all 16 bytes (omega arith) in
     let f12 : drop 12 bytes ≡ count_bytes tile.right = rw e16 at e12 in
     let f8 : drop 8 bytes ≡ count_bytes tile.up ++ count_bytes tile.right = rw f12 at e8 in
-    let f6 : drop 6 bytes ≡ 0 ∷ 0 ∷ (count_bytes tile.up ++ count_bytes tile.right) = d6 ∙ rw (h.zero_6, d7, h.zero_7, f8) refl in
-    let f4 : drop 4 bytes ≡ to_be_bytes w16 (cast_unsigned w16 tile.cell.lon) ++ (0 ∷ 0 ∷ (count_bytes tile.up ++ count_bytes tile.right)) = rw f6 at e4 in
+    let f6 : drop 6 bytes ≡ 0 ∷ 0 ∷ (count_bytes tile.up ++ count_bytes tile.right) = d6
+    ∙ rw (h.zero_6, d7, h.zero_7, f8) refl in
+    let f4 : drop 4 bytes ≡ to_be_bytes w16 (cast_unsigned w16 tile.cell.lon)
+    ++ (0 ∷ 0 ∷ (count_bytes tile.up ++ count_bytes tile.right)) = rw f6 at e4 in
     d0 ∙ rw (h.family, d1, level, d2, lat, d3, h.zero_3, f4) refl
 
 -- the bytes begin with an entry, or with none
-pub entry_short : (bytes : List ℕ) → length bytes < 16 → (tile : Tile) (after : List ℕ) → bytes ≡ entry_text tile ++ after → ⊥
+pub entry_short : (bytes : List ℕ) → length bytes < 16 → (tile : Tile) (after : List ℕ)
+    → bytes ≡ entry_text tile ++ after → ⊥
 entry_short bytes short tile after e =
-    let whole : length bytes ≡ 16 + length after = ap length e ∙ length-append (entry_text tile) after ∙ ap (λ n. n + length after) (length-entry_text tile) in
+    let whole : length bytes ≡ 16 + length after = ap length e ∙ length-append (entry_text tile) after
+    ∙ ap (λ n. n + length after) (length-entry_text tile) in
     omega arith
 
-pub entry_other : (bytes entry : List ℕ) → entry ≡ take 16 bytes → ((tile : Tile) → HasTileFields entry tile → ⊥) → (tile : Tile) (after : List ℕ) → bytes ≡ entry_text tile ++ after → ⊥
-entry_other bytes entry is never tile after e = never tile (has_tile entry tile (is ∙ ap (take 16) e ∙ take_at (entry_text tile) after 16 (length-entry_text tile)))
+pub entry_other : (bytes entry : List ℕ) → entry ≡ take 16 bytes → ((tile : Tile) → HasTileFields entry tile → ⊥)
+    → (tile : Tile) (after : List ℕ) → bytes ≡ entry_text tile ++ after → ⊥
+entry_other bytes entry is never tile after e =
+    never tile (has_tile entry tile (is ∙ ap (take 16) e ∙ take_at (entry_text tile) after 16 (length-entry_text tile)))
 
-pub entry_then : (bytes entry : List ℕ) (tile : Tile) → length entry ≡ 16 → IsBytes entry → entry ≡ take 16 bytes → HasTileFields entry tile → bytes ≡ entry_text tile ++ drop 16 bytes
-entry_then bytes entry tile len fits is h = sym (take-append-drop 16 bytes) ∙ ap (λ (front : List ℕ). front ++ drop 16 bytes) (sym is ∙ entry_is entry tile len fits h)
+pub entry_then : (bytes entry : List ℕ) (tile : Tile) → length entry ≡ 16 → IsBytes entry → entry ≡ take 16 bytes
+    → HasTileFields entry tile → bytes ≡ entry_text tile ++ drop 16 bytes
+entry_then bytes entry tile len fits is h = sym (take-append-drop 16 bytes)
+    ∙ ap (λ (front : List ℕ). front ++ drop 16 bytes) (sym is ∙ entry_is entry tile len fits h)
 
 -- a row or a column that the level doesn't have
-pub other_up : (entry : List ℕ) (level : Level) (up across : ℕ) → cast_signed w8 (get_or entry 1 0) ≡ level.number → up ≡ from_be_bytes w32 (take 4 (drop 8 entry)) → across ≡ tiles_of (height_of level.number) → across ≤ up → (tile : Tile) → HasTileFields entry tile → ⊥
+pub other_up : (entry : List ℕ) (level : Level) (up across : ℕ) → cast_signed w8 (get_or entry 1 0) ≡ level.number
+    → up ≡ from_be_bytes w32 (take 4 (drop 8 entry)) → across ≡ tiles_of (height_of level.number) → across ≤ up
+    → (tile : Tile) → HasTileFields entry tile → ⊥
 other_up entry level up across el eu is out tile h =
     let same : level.number ≡ tile.level.number = sym el ∙ h.level in
     let most : across ≡ tiles_of (height_of tile.level.number) = is ∙ ap (λ (z : ℤ). tiles_of (height_of z)) same in
@@ -139,7 +161,9 @@ other_up entry level up across el eu is out tile h =
     let below = tile.up_in_range in
     omega (arith, most, row, below)
 
-pub other_right : (entry : List ℕ) (level : Level) (right across : ℕ) → cast_signed w8 (get_or entry 1 0) ≡ level.number → right ≡ from_be_bytes w32 (take 4 (drop 12 entry)) → across ≡ tiles_of (height_of level.number) → across ≤ right → (tile : Tile) → HasTileFields entry tile → ⊥
+pub other_right : (entry : List ℕ) (level : Level) (right across : ℕ) → cast_signed w8 (get_or entry 1 0) ≡ level.number
+    → right ≡ from_be_bytes w32 (take 4 (drop 12 entry)) → across ≡ tiles_of (height_of level.number) → across ≤ right
+    → (tile : Tile) → HasTileFields entry tile → ⊥
 other_right entry level right across el er is out tile h =
     let same : level.number ≡ tile.level.number = sym el ∙ h.level in
     let most : across ≡ tiles_of (height_of tile.level.number) = is ∙ ap (λ (z : ℤ). tiles_of (height_of z)) same in

@@ -13,7 +13,8 @@ heads-length sources = length-map sources (λ (s : Source). s.head)
 pub publications : PublicationsHaveRecords
 publications version sources tiles least most publication touched =
     let same = heads-length sources in
-    let few : length tiles ≤ publication.load = within_load (heads_of sources) publication.load tiles publication.load_is touched in
+    let few : length tiles ≤ publication.load =
+    within_load (heads_of sources) publication.load tiles publication.load_is touched in
     published version (heads_of sources) tiles (record {
       version_least = least;
       version_most = most;

@@ -28,7 +28,8 @@ fields_text to_first = record_first_bytes
 fields_text (to_version version) = version_text version
 fields_text (to_sources version sources) = sources_text version sources
 fields_text (to_head version sources tiles heads) = record_front_text version sources tiles ++ heads_text heads
-fields_text (to_entry version tiles heads entries) = record_front_text version (length heads) tiles ++ heads_text heads ++ entries_text entries
+fields_text (to_entry version tiles heads entries) = record_front_text version (length heads) tiles ++ heads_text heads
+    ++ entries_text entries
 
 abbrev pub IsVersion : ℕ → Type 0
 IsVersion version = (1 ≤ version) × (version ≤ MOST_VERSIONS)
@@ -42,8 +43,10 @@ AreOfForm no_field = Unit {0}
 AreOfForm to_first = Unit {0}
 AreOfForm (to_version version) = IsVersion version
 AreOfForm (to_sources version sources) = IsVersion version × IsSources sources
-AreOfForm (to_head version sources tiles heads) = IsVersion version × IsSources sources × (tiles ≤ MOST_LOAD) × (length heads < sources)
-AreOfForm (to_entry version tiles heads entries) = IsVersion version × IsSources (length heads) × (tiles ≤ MOST_LOAD) × (length entries ≤ tiles) × Ascending entries
+AreOfForm (to_head version sources tiles heads) = IsVersion version × IsSources sources × (tiles ≤ MOST_LOAD)
+    × (length heads < sources)
+AreOfForm (to_entry version tiles heads entries) = IsVersion version × IsSources (length heads) × (tiles ≤ MOST_LOAD)
+    × (length entries ≤ tiles) × Ascending entries
 
 -- the bytes of a number from least to most
 abbrev pub IsNumberField : ℕ → ℕ → List ℕ → Type 0
@@ -91,7 +94,8 @@ pub record IsBadHead (text : List ℕ) (count : ℕ) (place : ℕ) : Type 0 wher
   pub never : (head : SourceHead) (after : List ℕ) → rest ≡ head_text head ++ after → ⊥
   pub place_is : place ≡ 20 + 44 * length heads
 
--- after so many entries of a text, which begin at a place, the next one isn't whole, is none, or doesn't come after them
+-- after so many entries of a text, which begin at a place, the next one isn't whole, is none, or doesn't come after
+-- them
 pub record IsBadEntry (text : List ℕ) (count : ℕ) (start : ℕ) (place : ℕ) : Type 0 where
   pub tiles : List Tile
   pub rest : List ℕ

@@ -12,4 +12,5 @@ OneBadField = (bytes : List ℕ) (p q : ℕ) → FirstBadField bytes p → First
 
 -- the text of a record has no bad field at any place
 abbrev pub RecordsHaveNoBadPlace : Type 0
-RecordsHaveNoBadPlace = (version : ℕ) (heads : List SourceHead) (tiles : List Tile) (place : ℕ) → IsRecord version heads tiles → FirstBadField (record_text version heads tiles) place → ⊥
+RecordsHaveNoBadPlace = (version : ℕ) (heads : List SourceHead) (tiles : List Tile) (place : ℕ)
+    → IsRecord version heads tiles → FirstBadField (record_text version heads tiles) place → ⊥

@@ -15,5 +15,6 @@ record_bytes item = record_text item.version item.heads item.tiles
 
 -- the text of each publication's record is that of a record
 abbrev pub PublicationsHaveRecords : Type 0
-PublicationsHaveRecords = (version : ℕ) (sources : List Source) (tiles : List Tile) → 1 ≤ version → version ≤ MOST_VERSIONS → IsPublication sources → IsTouched (heads_of sources) tiles
+PublicationsHaveRecords = (version : ℕ) (sources : List Source) (tiles : List Tile) → 1 ≤ version
+    → version ≤ MOST_VERSIONS → IsPublication sources → IsTouched (heads_of sources) tiles
     → (item : Record) × (record_bytes item ≡ record_text version (heads_of sources) tiles)

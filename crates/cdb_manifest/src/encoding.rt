@@ -23,7 +23,9 @@ fn family_number(family: Family) -> u8
 }
 
 fn put_front(out: &mut Vec<u8>, item: &Record) -> Result<(), AllocError>
-    ensures { OnOk result (out.new.items ≡ out.old.items ++ texts.record_front_text item.now.version (length item.now.heads) (length item.now.tiles)) }
+    ensures { OnOk result
+        (out.new.items ≡ out.old.items ++ texts.record_front_text item.now.version (length item.now.heads)
+        (length item.now.tiles)) }
 {
     out.extend_from_slice(&FIRST_BYTES)?;
     out.extend_from_slice(&item.version.to_be_bytes())?;

@@ -9,7 +9,8 @@ ghost use Rattle.cdb_manifest.specs.inside.Entries.{HasTileFields};
 use cdb_grid::{Family, Geocell, Level, Tile, tiles_across};
 
 fn family_of(number: u8) -> Option<Family>
-    ensures { MatchOption result ((family : families.Family) → number ≡ family_number family → ⊥) (λ family. number ≡ family_number family) }
+    ensures { MatchOption result ((family : families.Family) → number ≡ family_number family → ⊥)
+        (λ family. number ≡ family_number family) }
 {
     match number {
         1 => Some(Family::Elev),
@@ -35,7 +36,8 @@ fn longitude_in(entry: &[u8; 16]) -> i16
 
 /// The tile whose entry these bytes are.
 pub(crate) fn tile_of(entry: &[u8; 16]) -> Option<Tile>
-    ensures { MatchOption result ((tile : tiles.Tile) → HasTileFields entry.now tile → ⊥) (λ tile. HasTileFields entry.now tile) }
+    ensures { MatchOption result ((tile : tiles.Tile) → HasTileFields entry.now tile → ⊥)
+        (λ tile. HasTileFields entry.now tile) }
 {
     if entry[3] != 0 || entry[6] != 0 || entry[7] != 0 {
         return None;
@@ -63,7 +65,8 @@ pub(crate) fn tile_of(entry: &[u8; 16]) -> Option<Tile>
 
 /// The tile whose entry the bytes begin with, and what follows it.
 pub(crate) fn entry_at(bytes: &[u8]) -> Option<(Tile, &[u8])>
-    ensures { MatchOption result ((tile : tiles.Tile) (after : List ℕ) → bytes.now ≡ entry_text tile ++ after → ⊥) (λ p. bytes.now ≡ entry_text p.0 ++ p.1.now) }
+    ensures { MatchOption result ((tile : tiles.Tile) (after : List ℕ) → bytes.now ≡ entry_text tile ++ after → ⊥)
+        (λ p. bytes.now ≡ entry_text p.0 ++ p.1.now) }
 {
     let entry = bytes.first_chunk::<16>()?;
     let tile = tile_of(entry)?;

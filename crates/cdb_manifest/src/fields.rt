@@ -10,7 +10,8 @@ use cdb_source::{SOURCE_FRONT_BYTES, SourceHead, decode_head};
 
 /// What follows the first bytes.
 pub(crate) fn after_first(bytes: &[u8]) -> Option<&[u8]>
-    ensures { MatchOption result ((after : List ℕ) → bytes.now ≡ record_first_bytes ++ after → ⊥) (λ rest. bytes.now ≡ record_first_bytes ++ rest.now) }
+    ensures { MatchOption result ((after : List ℕ) → bytes.now ≡ record_first_bytes ++ after → ⊥)
+        (λ rest. bytes.now ≡ record_first_bytes ++ rest.now) }
 {
     if !bytes.starts_with(&FIRST_BYTES) {
         return None;
@@ -45,7 +46,8 @@ fn front_of(text: &[u8]) -> [u8; SOURCE_FRONT_BYTES]
 
 /// The head of a source, and what follows it.
 pub(crate) fn head_at(bytes: &[u8]) -> Option<(SourceHead, &[u8])>
-    ensures { MatchOption result ((head : heads.SourceHead) (after : List ℕ) → bytes.now ≡ source_texts.head_text head ++ after → ⊥)
+    ensures { MatchOption result ((head : heads.SourceHead) (after : List ℕ)
+        → bytes.now ≡ source_texts.head_text head ++ after → ⊥)
         (λ p. bytes.now ≡ source_texts.head_text p.0 ++ p.1.now) }
 {
     if bytes.len() < 44 {

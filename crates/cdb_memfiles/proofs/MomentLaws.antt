@@ -16,7 +16,8 @@ use Rattle.cdb_memfiles.specs.MemDisk.{history, disk_state, clock_of, since_of}
 use Rattle.cdb_memfiles.specs.declared.mem_disk.MemDisk.{MemDisk}
 
 pub elapses_push : (calls later : List Call) (call : Call) → later ≡ calls ++ call ∷ []
-    → Elapses (length calls) (length later) (HasBeen calls) (HasBeen later) (IsBetween (replay calls) (apply call (replay calls)))
+    → Elapses (length calls) (length later) (HasBeen calls) (HasBeen later)
+    (IsBetween (replay calls) (apply call (replay calls)))
 unfolding HasBeen
 elapses_push calls later call e = record {
   later = omega (arith, len);
@@ -35,9 +36,11 @@ elapses_push calls later call e = record {
     early : (k : ℕ) → k ≤ length calls → take k later ≡ take k calls
     early k le = ap (take k) e ∙ take-append-le k calls (call ∷ []) le
 
-    split : (t : ℕ) (m : FileMap) → t ≤ length calls → (been : (k : ℕ) × (t ≤ k) × (k ≤ length later) × IsImage (replay (take k later)) m)
+    split : (t : ℕ) (m : FileMap) → t ≤ length calls
+        → (been : (k : ℕ) × (t ≤ k) × (k ≤ length later) × IsImage (replay (take k later)) m)
         → (length calls < been.0) ⊎ (been.0 ≤ length calls)
-        → ((k : ℕ) × (t ≤ k) × (k ≤ length calls) × IsImage (replay (take k calls)) m) ⊎ IsBetween (replay calls) (apply call (replay calls)) m
+        → ((k : ℕ) × (t ≤ k) × (k ≤ length calls) × IsImage (replay (take k calls)) m)
+        ⊎ IsBetween (replay calls) (apply call (replay calls)) m
     split t m le been (inl last) =
         let whole : length later ≤ been.0 = omega (arith, last, len) in
         let P : State → Type 0 = λ s. IsImage s m in
@@ -48,19 +51,25 @@ elapses_push calls later call e = record {
         inl (been.0, been.1, before, subst P (early been.0 before) been.3)
 
 -- The same of an append, by the bytes of its piece.
-pub elapses_append : (calls later : List Call) (path : ArrayString) (piece : List ℕ) (bytes : Vec ℕ Global) → bytes.items ≡ piece
+pub elapses_append : (calls later : List Call) (path : ArrayString) (piece : List ℕ) (bytes : Vec ℕ Global)
+    → bytes.items ≡ piece
     → later ≡ calls ++ Append path bytes ∷ []
-    → Elapses (length calls) (length later) (HasBeen calls) (HasBeen later) (IsBetween (replay calls) (after_append path.bytes piece (replay calls)))
+    → Elapses (length calls) (length later) (HasBeen calls) (HasBeen later)
+    (IsBetween (replay calls) (after_append path.bytes piece (replay calls)))
 elapses_append calls later path piece bytes same e =
-    let P : List ℕ → Type 0 = λ xs. Elapses (length calls) (length later) (HasBeen calls) (HasBeen later) (IsBetween (replay calls) (after_append path.bytes xs (replay calls))) in
+    let P : List ℕ → Type 0 = λ xs. Elapses (length calls) (length later) (HasBeen calls) (HasBeen later)
+    (IsBetween (replay calls) (after_append path.bytes xs (replay calls))) in
     subst P same (elapses_push calls later (Append path bytes) e)
 
-pub state_push : (calls later : List Call) (call : Call) → later ≡ calls ++ call ∷ [] → replay later ≡ apply call (replay calls)
+pub state_push : (calls later : List Call) (call : Call) → later ≡ calls ++ call ∷ [] → replay later
+    ≡ apply call (replay calls)
 state_push calls later call e = ap replay e ∙ replay-push calls call
 
-pub state_append : (calls later : List Call) (path : ArrayString) (piece : List ℕ) (bytes : Vec ℕ Global) → bytes.items ≡ piece
+pub state_append : (calls later : List Call) (path : ArrayString) (piece : List ℕ) (bytes : Vec ℕ Global)
+    → bytes.items ≡ piece
     → later ≡ calls ++ Append path bytes ∷ [] → replay later ≡ after_append path.bytes piece (replay calls)
-state_append calls later path piece bytes same e = state_push calls later (Append path bytes) e ∙ ap (λ xs. after_append path.bytes xs (replay calls)) same
+state_append calls later path piece bytes same e = state_push calls later (Append path bytes) e
+    ∙ ap (λ xs. after_append path.bytes xs (replay calls)) same
 
 -- Calls that change no file.
 pub still-make_dir : (folder : Text) (s : State) → (after_make_dir folder s).present ≡ s.present
@@ -76,7 +85,8 @@ unfolding after_sync_dir
 still-sync_dir folder s = refl
 
 -- A failed making of folders that made none.
-pub fails_make_dir-same : (folder : Text) (old new : State) → new ≡ old → FailsMakeDir old (after_make_dir folder old) new
+pub fails_make_dir-same : (folder : Text) (old new : State) → new ≡ old
+    → FailsMakeDir old (after_make_dir folder old) new
 unfolding after_make_dir
 fails_make_dir-same folder old new e = record {
   present = ap (λ s. s.present) e;
@@ -87,7 +97,8 @@ fails_make_dir-same folder old new e = record {
 
 -- ---- a call of a disk in memory
 -- One call more, which is answered with Ok.
-pub changes_push : {T E : Type 0} {Leaves : State → State → State → Type 0} {v : T} {old new : MemDisk} (call : Call) → history new ≡ history old ++ call ∷ []
+pub changes_push : {T E : Type 0} {Leaves : State → State → State → Type 0} {v : T} {old new : MemDisk} (call : Call)
+    → history new ≡ history old ++ call ∷ []
     → Changes disk_state clock_of since_of {T = T} {E = E} (apply call) Leaves old new (Ok v)
 changes_push {old = old} {new = new} call e = record {
   ok = state_push (history old) (history new) call e;
@@ -97,15 +108,18 @@ changes_push {old = old} {new = new} call e = record {
 }
 
 -- The same of an append, by the bytes of its piece.
-pub changes_append : {T E : Type 0} {Leaves : State → State → State → Type 0} {v : T} {old new : MemDisk} (path : ArrayString) (piece : List ℕ) (bytes : Vec ℕ Global)
+pub changes_append : {T E : Type 0} {Leaves : State → State → State → Type 0} {v : T} {old new : MemDisk}
+    (path : ArrayString) (piece : List ℕ) (bytes : Vec ℕ Global)
     → bytes.items ≡ piece → history new ≡ history old ++ Append path bytes ∷ []
     → Changes disk_state clock_of since_of {T = T} {E = E} (after_append path.bytes piece) Leaves old new (Ok v)
 changes_append {T = T} {E = E} {Leaves = Leaves} {v = v} {old = old} {new = new} path piece bytes same e =
-    let P : List ℕ → Type 0 = λ xs. Changes disk_state clock_of since_of {T = T} {E = E} (after_append path.bytes xs) Leaves old new (Ok v) in
+    let P : List ℕ → Type 0 = λ xs. Changes disk_state clock_of since_of {T = T} {E = E} (after_append path.bytes xs)
+    Leaves old new (Ok v) in
     subst P same (changes_push (Append path bytes) e)
 
 -- A call that fails and is not noted.
-pub changes_none : {T E : Type 0} {after : State → State} {Leaves : State → State → State → Type 0} {x : E} {old new : MemDisk} → history new ≡ history old
+pub changes_none : {T E : Type 0} {after : State → State} {Leaves : State → State → State → Type 0} {x : E}
+    {old new : MemDisk} → history new ≡ history old
     → Leaves (disk_state old) (after (disk_state old)) (disk_state new)
     → Changes disk_state clock_of since_of {T = T} {E = E} after Leaves old new (Err x)
 changes_none {old = old} {new = new} e leaves = record {

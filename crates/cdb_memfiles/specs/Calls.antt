@@ -15,7 +15,8 @@ GivesBytes m path at bytes result = OnOk result (HasAt (m path) at bytes)
 
 -- The first file under a folder is told, or that there is none.
 abbrev pub TellsFirst : {E : Type 0} → FileMap → Text → Result (Option ArrayString) E → Type 0
-TellsFirst m folder result = IfOk result (λ found. MatchOption found (NoneUnder m folder) (λ path. IsFirstUnder m folder path.bytes))
+TellsFirst m folder result =
+    IfOk result (λ found. MatchOption found (NoneUnder m folder) (λ path. IsFirstUnder m folder path.bytes))
 
 -- What a failed call leaves, by the states before it, after it, and left: nothing has changed.
 abbrev pub IsUnchanged : State → State → State → Type 0
@@ -32,8 +33,10 @@ module _ {D : Type 0} (state_of : D → State) (clock_of : D → ℕ) (since_of 
     pub time : Rests (clock_of old) (clock_of new) (since_of old) (since_of new)
 
   -- A call that makes this of the state where it is Ok, and where it fails leaves what it may leave then.
-  pub record Changes {T E : Type 0} (after : State → State) (Leaves : State → State → State → Type 0) (old new : D) (result : Result T E) : Type 0 where
+  pub record Changes {T E : Type 0} (after : State → State) (Leaves : State → State → State → Type 0) (old new : D)
+      (result : Result T E) : Type 0 where
     pub ok : OnOk result (state_of new ≡ after (state_of old))
     pub err : OnErr result (Leaves (state_of old) (after (state_of old)) (state_of new))
-    pub time : Elapses (clock_of old) (clock_of new) (since_of old) (since_of new) (IsBetween (state_of old) (after (state_of old)))
+    pub time : Elapses (clock_of old) (clock_of new) (since_of old) (since_of new)
+        (IsBetween (state_of old) (after (state_of old)))
     pub moves : Moves (clock_of old) (clock_of new) (state_of old) (state_of new)

@@ -47,4 +47,5 @@ or_else (Some bytes) v = Some bytes
 
 -- Each path has what was picked for it, or waits for it and is absent.
 abbrev pub IsPicked : FileMap → FileMap → FileMap → Type 0
-IsPicked goal rest present = (q : Text) → ((rest q ≡ goal q) × (present q ≡ None)) ⊎ ((rest q ≡ None) × (present q ≡ goal q))
+IsPicked goal rest present = (q : Text)
+    → ((rest q ≡ goal q) × (present q ≡ None)) ⊎ ((rest q ≡ None) × (present q ≡ goal q))

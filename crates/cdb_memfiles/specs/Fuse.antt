@@ -18,7 +18,8 @@ module _ {D : Type 0} where
   fuse_faults fuse = fuse.faults
 
   -- A call is passed while there are calls left, and fails then only where the inner disk's count of faults rose.
-  -- With none left it fails and changes nothing. Its own count of faults rises by one in a call that fails, and rests else.
+  -- With none left it fails and changes nothing. Its own count of faults rises by one in a call that fails, and rests
+  -- else.
   pub record IsFused {T E : Type 0} (fault_count : D → ℕ) (old new : Fuse D) (result : Result T E) : Type 0 where
     pub cause : HasCause (fuse_faults old) (fuse_faults new) result
     pub left : calls_left new ≡ calls_left old - 1

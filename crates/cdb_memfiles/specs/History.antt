@@ -7,7 +7,8 @@ use Rattle.cdb_memfiles.specs.declared.call.Call.TheVariants.{MakeDir, Create, A
 
 -- A file that a crash left: it has these bytes, and no other possibility.
 unfoldable pub after_restore : Text → List ℕ → State → State
-after_restore path bytes s = record s { present = put s.present path (Some bytes); may = put s.may path (Some (Some bytes ∷ [])) }
+after_restore path bytes s =
+    record s { present = put s.present path (Some bytes); may = put s.may path (Some (Some bytes ∷ [])) }
 
 -- What a call makes of a state.
 abbrev pub apply : Call → State → State

@@ -34,8 +34,8 @@ clock_of disk = length (history disk)
 abbrev pub since_of : MemDisk → ℕ → FileMap → Type 0
 since_of disk = HasBeen (history disk)
 
--- A call that changes the disk fails where it is listed, and else only where a growth was refused; and where it fails, nothing
--- has changed.
+-- A call that changes the disk fails where it is listed, and else only where a growth was refused; and where it fails,
+-- nothing has changed.
 pub record WritesAsListed {T E : Type 0} (old new : MemDisk) (result : Result T E) : Type 0 where
   pub numbered : CountsCall (schedule_of old) (schedule_of new)
   pub cause : HasCause (schedule_of old).faults (schedule_of new).faults result

@@ -56,7 +56,8 @@ pub fn made_folders(alloc: Global, calls: &[Call]) -> Result<Record, AllocError>
 
 /// One call more, which is noted where it made a folder.
 fn note_folder(folders: &mut Record, call: &Call) -> Result<(), AllocError>
-    ensures { OnOk result ((s : State) → replay folders.old.calls.items ≡ only_made s → replay folders.new.calls.items ≡ only_made (apply call.now s)) }
+    ensures { OnOk result ((s : State) → replay folders.old.calls.items ≡ only_made s
+        → replay folders.new.calls.items ≡ only_made (apply call.now s)) }
 {
     if let Call::MakeDir(folder) = call {
         folders.note(Call::MakeDir(*folder))?;
@@ -82,7 +83,8 @@ fn restore_one(after: &mut Record, entry: (Path, Standing), pick: Pick) -> Resul
 pub fn restore_paths(folders: Record, table: Standings, pick: Pick) -> Result<Record, AllocError>
     requires empty { (q : Text) → (replay folders.calls.items).present q ≡ None }
     requires settled { IsSettled (replay folders.calls.items) }
-    ensures present { IfOk result (λ after. (q : Text) → (replay after.calls.items).present q ≡ picked_shown pick (shown table q)) }
+    ensures present { IfOk result
+        (λ after. (q : Text) → (replay after.calls.items).present q ≡ picked_shown pick (shown table q)) }
     ensures only { IfOk result (λ after. IsSettled (replay after.calls.items)) }
     ensures made { IfOk result (λ after. (replay after.calls.items).made ≡ (replay folders.calls.items).made) }
 {

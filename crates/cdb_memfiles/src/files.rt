@@ -59,7 +59,9 @@ pub fn take(files: &mut ByPath, path: &Path) -> Option<Vec<u8>>
 /// Adds `piece` at the end of the file.
 pub fn extend(files: &mut ByPath, path: &Path, piece: &[u8]) -> Result<(), AllocError>
     requires { IsThere (content files.old path.now.bytes) }
-    ensures ok { OnOk result (content files.new ≡ put (content files.old) path.now.bytes (with_piece piece.now (content files.old path.now.bytes))) }
+    ensures ok { OnOk result
+        (content files.new
+        ≡ put (content files.old) path.now.bytes (with_piece piece.now (content files.old path.now.bytes))) }
     ensures err { OnErr result (content files.new ≡ content files.old) }
 {
     let Some(bytes) = files.get_mut(path) else {
@@ -79,7 +81,9 @@ pub fn move_file(
 ) -> Result<(), AllocError>
     requires differ { from.now.bytes ≢ to.now.bytes }
     requires there { IsThere (content files.old from.now.bytes) }
-    ensures ok { OnOk result (content files.new ≡ put (put (content files.old) to.now.bytes (content files.old from.now.bytes)) from.now.bytes None) }
+    ensures ok { OnOk result
+        (content files.new ≡ put (put (content files.old) to.now.bytes (content files.old from.now.bytes))
+        from.now.bytes None) }
     ensures err { OnErr result (content files.new ≡ content files.old) }
     ensures short { length to.now.bytes ≤ 128 }
 {
@@ -96,7 +100,8 @@ pub fn move_file(
 
 /// What the paths of files under the folder begin with, or `None` where no path is so long.
 fn prefix_of(folder: &Path) -> Option<Path>
-    ensures { MatchOption result (129 ≤ length (folder_prefix folder.now.bytes)) (λ prefix. prefix.bytes ≡ folder_prefix folder.now.bytes) }
+    ensures { MatchOption result (129 ≤ length (folder_prefix folder.now.bytes))
+        (λ prefix. prefix.bytes ≡ folder_prefix folder.now.bytes) }
 {
     let mut prefix = *folder;
     if !folder.is_empty() && prefix.try_push('/').is_err() {
@@ -109,7 +114,8 @@ fn prefix_of(folder: &Path) -> Option<Path>
 /// there is none.
 pub fn first_in(files: &ByPath, folder: &Path) -> Option<Path>
     requires { IsShort files.now }
-    ensures { MatchOption result (NoneUnder (content files.now) folder.now.bytes) (λ path. IsFirstUnder (content files.now) folder.now.bytes path.bytes) }
+    ensures { MatchOption result (NoneUnder (content files.now) folder.now.bytes)
+        (λ path. IsFirstUnder (content files.now) folder.now.bytes path.bytes) }
 {
     let prefix = prefix_of(folder)?;
     let (path, _) = files.range(prefix..).next()?;

@@ -75,7 +75,8 @@ impl Record {
 
     pub fn append(&mut self, path: &Path, piece: &[u8]) -> Result<(), AllocError>
         requires { IsThere ((replay self.old.calls.items).present path.now.bytes) }
-        ensures ok { OnOk result ((bytes : _) × (bytes.items ≡ piece.now) × (self.new.calls.items ≡ self.old.calls.items ++ Call.Append path.now bytes ∷ [])) }
+        ensures ok { OnOk result ((bytes : _) × (bytes.items ≡ piece.now)
+            × (self.new.calls.items ≡ self.old.calls.items ++ Call.Append path.now bytes ∷ [])) }
         ensures err { OnErr result (self.new.calls.items ≡ self.old.calls.items) }
     {
         let bytes = copy_of(self.alloc, piece)?;
@@ -109,7 +110,8 @@ impl Record {
 
     /// A file that a crash left.
     pub fn restore(&mut self, path: &Path, bytes: Vec<u8>) -> Result<(), AllocError>
-        ensures ok { OnOk result ((kept : _) × (kept.items ≡ bytes.items) × (self.new.calls.items ≡ self.old.calls.items ++ Call.Restore path.now kept ∷ [])) }
+        ensures ok { OnOk result ((kept : _) × (kept.items ≡ bytes.items)
+            × (self.new.calls.items ≡ self.old.calls.items ++ Call.Restore path.now kept ∷ [])) }
         ensures err { OnErr result (self.new.calls.items ≡ self.old.calls.items) }
     {
         let kept = copy_of(self.alloc, bytes.as_slice())?;

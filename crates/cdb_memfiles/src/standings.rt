@@ -60,7 +60,9 @@ fn longer(file: Option<Vec<u8>>, piece: &[u8]) -> Result<Option<Vec<u8>>, AllocE
 
 /// The piece is added, and anything may be left.
 pub fn append(table: &mut Standings, path: &Path, piece: &[u8]) -> Result<(), AllocError>
-    ensures { OnOk result (shown table.new ≡ put (shown table.old) path.now.bytes (with_piece piece.now (shown table.old path.now.bytes).0, None)) }
+    ensures { OnOk result
+        (shown table.new
+        ≡ put (shown table.old) path.now.bytes (with_piece piece.now (shown table.old path.now.bytes).0, None)) }
 {
     let Standing { now, first: _ } = take(table, path);
     let standing = Standing {
@@ -73,7 +75,10 @@ pub fn append(table: &mut Standings, path: &Path, piece: &[u8]) -> Result<(), Al
 
 /// The file is synced.
 pub fn sync_file(table: &mut Standings, path: &Path) -> Result<(), AllocError>
-    ensures { OnOk result (shown table.new ≡ put (shown table.old) path.now.bytes ((shown table.old path.now.bytes).0, synced_first (shown table.old path.now.bytes).1)) }
+    ensures { OnOk result
+        (shown table.new
+        ≡ put (shown table.old)
+        path.now.bytes ((shown table.old path.now.bytes).0, synced_first (shown table.old path.now.bytes).1)) }
 {
     let mut standing = take(table, path);
     standing.sync();
@@ -83,7 +88,8 @@ pub fn sync_file(table: &mut Standings, path: &Path) -> Result<(), AllocError>
 
 /// The path is absent, and this may be left beside the rest.
 pub fn remove(table: &mut Standings, path: &Path) -> Result<(), AllocError>
-    ensures { OnOk result (shown table.new ≡ put (shown table.old) path.now.bytes (None, (shown table.old path.now.bytes).1)) }
+    ensures { OnOk result
+        (shown table.new ≡ put (shown table.old) path.now.bytes (None, (shown table.old path.now.bytes).1)) }
 {
     let standing = take(table, path);
     store(table, path, standing.replace(None))?;
@@ -92,7 +98,13 @@ pub fn remove(table: &mut Standings, path: &Path) -> Result<(), AllocError>
 
 /// `to` has the bytes of `from`, where a crash may leave nothing.
 pub fn rename(table: &mut Standings, from: &Path, to: &Path) -> Result<(), AllocError>
-    ensures { OnOk result (shown table.new ≡ put (put (shown table.old) to.now.bytes ((shown table.old from.now.bytes).0, (put (shown table.old) from.now.bytes never_named to.now.bytes).1)) from.now.bytes never_named) }
+    ensures { OnOk result
+        (shown table.new
+        ≡ put (put (shown table.old)
+        to.now.bytes (
+          (shown table.old from.now.bytes).0,
+          (put (shown table.old) from.now.bytes never_named to.now.bytes).1,
+        )) from.now.bytes never_named) }
 {
     let Standing { now, first: _ } = take(table, from);
     let standing = take(table, to);
@@ -103,7 +115,8 @@ pub fn rename(table: &mut Standings, from: &Path, to: &Path) -> Result<(), Alloc
 
 /// A file that a crash left, and nothing else.
 pub fn restore(table: &mut Standings, path: &Path, bytes: Vec<u8>) -> Result<(), AllocError>
-    ensures { OnOk result (shown table.new ≡ put (shown table.old) path.now.bytes (Some bytes.items, Some (Some bytes.items))) }
+    ensures { OnOk result
+        (shown table.new ≡ put (shown table.old) path.now.bytes (Some bytes.items, Some (Some bytes.items))) }
 {
     let standing = Standing {
         now: Some(bytes),

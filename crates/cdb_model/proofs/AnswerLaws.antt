@@ -161,7 +161,8 @@ unfit_none w content x source h =
     let same : h.bytes ≡ x.bytes = same_Some h.bytes x.bytes (sym h.image.there ∙ x.image.there) in
     x.none source (subst (λ bytes. SpellsLoaded w bytes source) same h.spelled)
 
-loads_way : (s t : KnownState) (w : FileSource) (content : Content) (a : Answer) → SourceLine s w content a t → (IsUnsettled a → ⊥)
+loads_way : (s t : KnownState) (w : FileSource) (content : Content) (a : Answer) → SourceLine s w content a t
+    → (IsUnsettled a → ⊥)
     → Way (load_refusal s content) (Spells (IsSpelled w content) s) s a t
 loads_way s t w content (machine.source n) x free =
     inr (by_file s content None x.gains.ready (when_read content x.bytes x.image), gains_loaded w content s t n x)
@@ -224,12 +225,14 @@ not_large s tiles n load x is many =
     let same : x.load ≡ load = one_load (heads_of s.pending) x.load load x.load_is is in
     let fits = x.fits in omega (arith, same, fits, many)
 
-not_many : (s : KnownState) (xs ys : List Tile) (m n : ℕ) → IsPlanned s xs m → m ≤ 1000000 → IsPlanned s ys n → 1000000 < n
+not_many : (s : KnownState) (xs ys : List Tile) (m n : ℕ) → IsPlanned s xs m → m ≤ 1000000
+    → IsPlanned s ys n → 1000000 < n
     → ⊥
 not_many s xs ys m n x fit y many = let same = (one_plan s xs ys m n x y).1 in omega (arith, same, fit, many)
 
 -- a publication that is begun has one number of steps
-one_going : (s : KnownState) (v m w n : ℕ) (t u : KnownState) (x : Begun s v m t) (y : Begun s w n u) → x.tiles ≡ y.tiles → t ≡ u
+one_going : (s : KnownState) (v m w n : ℕ) (t u : KnownState) (x : Begun s v m t) (y : Begun s w n u)
+    → x.tiles ≡ y.tiles → t ≡ u
 one_going s v m w n t u x y tiles =
     let same : x.publication ≡ y.publication = x.starts.0 ∙ sym y.starts.0 in
     let left : x.left ≡ y.left =
@@ -278,7 +281,8 @@ publishes_one s (machine.entries m) _ t u x y = absurd y
 publishes_one s machine.full_of_versions _ t u x y = absurd y
 publishes_one s _ b t u x y = absurd x
 
-begins_way : (s t : KnownState) (a : Answer) → PublishLine s a t → (IsUnsettled a → ⊥) → Way (begin_refusal s) (Publishes s) s a t
+begins_way : (s t : KnownState) (a : Answer) → PublishLine s a t → (IsUnsettled a → ⊥)
+    → Way (begin_refusal s) (Publishes s) s a t
 begins_way s t (machine.begun v n) x free = inr (when_pending s x.planned.pending, x)
 begins_way s t machine.halted x free = inl (ap (λ test. begin_refusal_by test (is_some s.going) s.pending) x.0, x.1)
 begins_way s t machine.busy x free =
@@ -337,7 +341,8 @@ goes_and_ends s count version t u (inr x) y =
     let e : x.now.left ≡ y.now.left = ap (λ (n : Going). n.left) (going_once s x.now y.now x.going y.going) in
     let more = x.more in let few = y.few in omega (arith, e, more, few)
 
-ends_one : (s : KnownState) (count v w : ℕ) (t u : KnownState) → EndsIn known_store count s v t → EndsIn known_store count s w u
+ends_one : (s : KnownState) (count v w : ℕ) (t u : KnownState) → EndsIn known_store count s v t
+    → EndsIn known_store count s w u
     → Agree (machine.published v) t (machine.published w) u
 ends_one s count v w t u x y = (
   ap machine.published (x.version_is ∙ sym y.version_is),
@@ -397,7 +402,8 @@ finishes_one s a b t u x y =
     let same : y.0 ≡ x.0 = one_left s.going y.0 x.0 y.1 x.1 in
     made_one s x.0 a b t u x.2 (subst (λ n. Made s n b u) same y.2)
 
-completes_way : (s t : KnownState) (a : Answer) → StepAllLine s a t → (IsUnsettled a → ⊥) → Way (step_refusal s) (Finishes s) s a t
+completes_way : (s t : KnownState) (a : Answer) → StepAllLine s a t → (IsUnsettled a → ⊥)
+    → Way (step_refusal s) (Finishes s) s a t
 completes_way s t machine.halted x free = inl (halted_steps s x.0, x.1)
 completes_way s t machine.nothing x free = inl (idle_steps s x.0, x.1)
 completes_way s t a x free = inr (busy_steps s x.1, (x.0, x.2, (x.1, free, many_steps known x.0 s a t x.3)))
@@ -405,7 +411,8 @@ completes_way s t a x free = inr (busy_steps s x.1, (x.0, x.2, (x.1, free, many_
 -- ---- sessions
 
 -- a session is asked for
-connects_one : (s t u : KnownState) (a b : Answer) → OpenLine s a t → OpenLine s b u → (IsUnsettled a → ⊥) → (IsUnsettled b → ⊥)
+connects_one : (s t u : KnownState) (a b : Answer) → OpenLine s a t → OpenLine s b u → (IsUnsettled a → ⊥)
+    → (IsUnsettled b → ⊥)
     → Agree a t b u
 connects_one s t u (machine.session i v) (machine.session j w) x y fa fb =
     let id : i ≡ j = x.id_is ∙ sym y.id_is in

@@ -123,7 +123,8 @@ changes_add : (old new : KnownState) (answer : Answer) → Changes old answer ne
 changes_add old new answer (changes.stays quiet same) =
     subst (λ (n : ℕ). Adds old n new) (sym (quiet_completes old answer quiet)) (none_more old new same.list)
 changes_add old new answer (changes.begins version files is b) =
-    subst (λ (a : Answer). Adds old (completes a) new) (sym is) (none_more old new (ap (λ (s : KnownState). s.list) b.next))
+    subst (λ (a : Answer). Adds old (completes a) new) (sym is)
+    (none_more old new (ap (λ (s : KnownState). s.list) b.next))
 changes_add old new answer (changes.makes count m) = made_adds count old new answer m
 
 late_completes : (count : ℕ) (old new : KnownState) (answer : Answer) → AreMadeIn known_store count old answer new
@@ -133,7 +134,8 @@ late_completes count old new (machine.published version) g = refl
 late_completes count old new machine.fault g = refl
 late_completes count old new _ g = absurd g
 
-pub moves_add : (old new : KnownState) (answers : List Answer) → Moves old answers new → Adds old (tally completes answers) new
+pub moves_add : (old new : KnownState) (answers : List Answer) → Moves old answers new
+    → Adds old (tally completes answers) new
 moves_add old new answers (changes.by_line answer is c) =
     let one : completes answer ≡ tally completes (answer ∷ []) = omega arith in
     subst (λ (n : ℕ). Adds old n new) (one ∙ ap (tally completes) (sym is)) (changes_add old new answer c)
@@ -189,7 +191,8 @@ fewer_whole (a ∷ answers) written =
   where
     by : (w : Bool)
         → tally completes (whole_answers answers (drop (length (text_of_answer a)) written)) ≤ tally completes answers
-        → tally completes (cond w (a ∷ whole_answers answers (drop (length (text_of_answer a)) written)) []) ≤ completes a +
+        → tally completes (cond w (a ∷ whole_answers answers (drop (length (text_of_answer a)) written)) []) ≤ completes
+        a +
         tally completes answers
     by true fewer = omega arith
     by false fewer = omega arith

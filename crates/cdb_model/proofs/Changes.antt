@@ -25,7 +25,8 @@ pub data Seats (old new : KnownState) : Type 0 where
 
 pub same_seats : (old mid new : KnownState) → mid.sessions ≡ old.sessions → mid.opened ≡ old.opened → new ≡ mid
     → Seats old new
-same_seats old mid new a b e = sits (ap (λ (s : KnownState). s.sessions) e ∙ a) (ap (λ (s : KnownState). s.opened) e ∙ b)
+same_seats old mid new a b e = sits (ap (λ (s : KnownState). s.sessions) e ∙ a)
+    (ap (λ (s : KnownState). s.opened) e ∙ b)
 
 -- the publications are as before
 pub record Same (old new : KnownState) : Type 0 where
@@ -59,7 +60,8 @@ pub data Changes (old : KnownState) (answer : Answer) (new : KnownState) : Type 
       → Changes old answer new
   makes : (count : ℕ) → AreMadeIn known_store count old answer new → Changes old answer new
 
-gives : (old new : KnownState) (w : InlineSource) (answer : Answer) → InlineLine old w answer new → Changes old answer new
+gives : (old new : KnownState) (w : InlineSource) (answer : Answer) → InlineLine old w answer new
+    → Changes old answer new
 gives old new w (machine.source n) g =
     stays tt record {
       list = ap (λ (s : KnownState). s.list) g.next;
@@ -74,7 +76,8 @@ gives old new w machine.range g = stays tt (same old new g.2)
 gives old new w machine.memory g = stays tt (same old new g.1)
 gives old new w _ g = absurd g
 
-loads : (old new : KnownState) (w : FileSource) (content : Content) (answer : Answer) → SourceLine old w content answer new
+loads : (old new : KnownState) (w : FileSource) (content : Content) (answer : Answer)
+    → SourceLine old w content answer new
     → Changes old answer new
 loads old new w content (machine.source n) g =
     let next = g.gains.next in
@@ -132,7 +135,8 @@ connects old new machine.many g = stays tt (same old new g.1)
 connects old new machine.memory g = stays tt (same old new g.1)
 connects old new _ g = absurd g
 
-asks : (old new : KnownState) (id : ℕ) (t : Tile) (answer : Answer) → TileLine old id t answer new → Changes old answer new
+asks : (old new : KnownState) (id : ℕ) (t : Tile) (answer : Answer) → TileLine old id t answer new
+    → Changes old answer new
 asks old new id t (machine.tile bytes) g = stays tt (same old new g.1)
 asks old new id t machine.missing g = stays tt (same old new g.1)
 asks old new id t machine.unknown g = stays tt (same old new g.1)

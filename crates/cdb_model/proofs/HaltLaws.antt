@@ -57,7 +57,8 @@ moves_halt old new answers (changes.by_steps count answer is m) =
     subst (λ (n : ℕ). Halts old n new) (sym (late_halts count old new answer m)
     ∙ ap (tally disk_fault) (sym is)) (made_halts count old new answer m)
 
-joined : (old mid new : KnownState) (first later all : ℕ) → all ≡ first + later → Halts old first mid → Halts mid later new
+joined : (old mid new : KnownState) (first later all : ℕ) → all ≡ first + later → Halts old first mid
+    → Halts mid later new
     → Halts old all new
 joined old mid new first later all sum (inl a) (inl b) = inl (b ∙ a)
 joined old mid new first later all sum (inr a) later_halts = inr (a.0, let f = a.1 in omega (arith, f, sum))

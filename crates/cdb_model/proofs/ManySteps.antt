@@ -126,7 +126,8 @@ last w count old (machine.damaged expected found) new other g = g
 last w count old _ new other g = absurd g
 
 -- no step
-none : (w : Which) (count : ℕ) (old : StateIn (store_kind w)) (answer : Answer) (new : StateIn (store_kind w)) → (count ≡ 0)
+none : (w : Which) (count : ℕ) (old : StateIn (store_kind w)) (answer : Answer) (new : StateIn (store_kind w))
+    → (count ≡ 0)
     ⊎ (old.going ≡ None)
     → answer ≡ machine.going → new ≡ old → AreMadeIn (store_kind w) count old answer new
 none w count old answer new why is e =

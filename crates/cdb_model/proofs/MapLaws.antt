@@ -55,17 +55,20 @@ has_slash-at (c ∷ rest) (suc k) l e = or_right (c == 47) (has_slash rest) (has
 has_slash-none : (bs : Text) → ((i : ℕ) → i < length bs → get_or bs i 0 ≢ 47) → has_slash bs ≡ false
 has_slash-none [] none = refl
 has_slash-none (c ∷ rest) none =
-    or_none (c == 47) (has_slash rest) (ne_eqb c 47 (none 0 (omega arith))) (has_slash-none rest (λ i l. none (suc i) (omega arith)))
+    or_none (c == 47) (has_slash rest) (ne_eqb c 47 (none 0 (omega arith)))
+    (has_slash-none rest (λ i l. none (suc i) (omega arith)))
   where
     or_none : (x y : Bool) → x ≡ false → y ≡ false → (x || y) ≡ false
     or_none x y a b = grind (arith, common_steps)
 
-pub folder_above-last : (bs : Text) (k : ℕ) → k < length bs → get_or bs k 0 ≡ 47 → ((i : ℕ) → k < i → i < length bs → get_or bs i 0 ≢ 47)
+pub folder_above-last : (bs : Text) (k : ℕ) → k < length bs → get_or bs k 0 ≡ 47
+    → ((i : ℕ) → k < i → i < length bs → get_or bs i 0 ≢ 47)
     → folder_above bs ≡ take k bs
 unfolding folder_above
 folder_above-last [] k l e after = absurd (omega arith)
 folder_above-last (c ∷ rest) zero l e after =
-    cond-false (has_slash rest) (c ∷ folder_above rest) [] (has_slash-none rest (λ i m. after (suc i) (omega arith) (omega arith)))
+    cond-false (has_slash rest) (c ∷ folder_above rest) []
+    (has_slash-none rest (λ i m. after (suc i) (omega arith) (omega arith)))
 folder_above-last (c ∷ rest) (suc k) l e after =
     cond-true (has_slash rest) (c ∷ folder_above rest) [] (has_slash-at rest k (omega arith) e)
     ∙ ap (λ t. c ∷ t) (folder_above-last rest k (omega arith) e (λ i m n. after (suc i) (omega arith) (omega arith)))
@@ -73,4 +76,5 @@ folder_above-last (c ∷ rest) (suc k) l e after =
 pub folder_above-none : (bs : Text) → ((i : ℕ) → i < length bs → get_or bs i 0 ≢ 47) → folder_above bs ≡ []
 unfolding folder_above
 folder_above-none [] none = refl
-folder_above-none (c ∷ rest) none = cond-false (has_slash rest) (c ∷ folder_above rest) [] (has_slash-none rest (λ i l. none (suc i) (omega arith)))
+folder_above-none (c ∷ rest) none = cond-false (has_slash rest) (c ∷ folder_above rest) []
+    (has_slash-none rest (λ i l. none (suc i) (omega arith)))

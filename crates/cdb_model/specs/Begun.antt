@@ -51,7 +51,8 @@ pub record BeginsFirst (Has : Text → Content → Type 0) (Rest : KnownState �
   pub begun_are : begun ≡ begins_first old now ++ others
   pub rest : Rest mid later others
 
-abbrev pub RunBegins : (Text → Content → Type 0) → KnownState → List Item → List Answer → List Publication → KnownState → Type 0
+abbrev pub RunBegins : (Text → Content → Type 0) → KnownState → List Item → List Answer → List Publication
+    → KnownState → Type 0
 RunBegins Has old [] answers begun new = (answers ≡ []) × (begun ≡ []) × (new ≡ old)
 RunBegins Has old (item ∷ items) answers begun new =
     BeginsFirst Has (λ mid later others. RunBegins Has mid items later others new) old item answers begun

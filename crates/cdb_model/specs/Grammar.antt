@@ -60,7 +60,8 @@ kind_word w =
 abbrev pub is_slash : ℕ → Bool
 is_slash c = c == 47
 
--- a fraction by what stands before the first slash, and after it where there is one; without a slash it is a whole number
+-- a fraction by what stands before the first slash, and after it where there is one; without a slash it is a whole
+-- number
 abbrev pub fraction_of : Text → Option Text → Option Fraction
 fraction_of top None = option_map (λ n. record { n = n; d = pos 1 }) (signed 18 top)
 fraction_of top (Some bottom) = do
@@ -82,7 +83,8 @@ abbrev pub is_path_byte : ℕ → Bool
 is_path_byte c = is_ascii_alphanumeric c || (c == 95) || (c == 45) || (c == 46)
 
 abbrev pub is_part : Text → Bool
-is_part p = nat_lt 0 (length p) && list_all is_path_byte p && not (bytes_eq p (codes ".")) && not (bytes_eq p (codes ".."))
+is_part p = nat_lt 0 (length p) && list_all is_path_byte p && not (bytes_eq p (codes "."))
+    && not (bytes_eq p (codes ".."))
 
 -- 1 to 128 bytes: parts joined by slashes
 unfoldable pub path_word : Text → Option Text

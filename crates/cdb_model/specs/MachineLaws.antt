@@ -27,7 +27,8 @@ FreeLeaves s a t = t ≡ s
 
 -- the other free answers leave the state
 abbrev pub FreeAnswers : Type 0
-FreeAnswers = (s : KnownState) (e : Event) (a : Answer) (t : KnownState) → Step s e a t → IsUnsettled a → FreeLeaves s a t
+FreeAnswers = (s : KnownState) (e : Event) (a : Answer) (t : KnownState) → Step s e a t → IsUnsettled a
+    → FreeLeaves s a t
 
 -- ---- many steps
 

@@ -68,4 +68,5 @@ NoneUnder m folder = (path : Text) → IsTrue (is_under folder path) → m path 
 pub record IsFirstUnder (m : FileMap) (folder path : Text) : Type 0 where
   pub under : IsTrue (is_under folder path)
   pub there : IsThere (m path)
-  pub least : (other : Text) → IsTrue (is_under folder other) → IsThere (m other) → is_gt (slice_cmp nat_cmp path other) ≡ false
+  pub least : (other : Text) → IsTrue (is_under folder other) → IsThere (m other)
+      → is_gt (slice_cmp nat_cmp path other) ≡ false

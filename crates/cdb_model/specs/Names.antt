@@ -8,7 +8,8 @@ use Rattle.cdb_grid.specs.declared.tile.Tile.{Tile}
 pub use Rattle.cdb_model.specs.Text.{Text}
 use Rattle.cdb_model.specs.declared.limits.TheConstants.{MOST_VERSIONS}
 
--- a number below 100 in two digits, one below 1,000 in three, one below 10,000 in four, and one below 100,000,000 in eight
+-- a number below 100 in two digits, one below 1,000 in three, one below 10,000 in four, and one below 100,000,000 in
+-- eight
 abbrev pub two : ℕ → Text
 two n = (48 + n / 10) ∷ (48 + n % 10) ∷ []
 

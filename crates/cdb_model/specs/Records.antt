@@ -47,7 +47,8 @@ entries_text tiles = flat_map entry_text tiles
 
 -- a record: its version, the heads of its sources and its tiles
 abbrev pub record_text : ℕ → List SourceHead → List Tile → List ℕ
-record_text version heads tiles = record_front_text version (length heads) (length tiles) ++ heads_text heads ++ entries_text tiles
+record_text version heads tiles = record_front_text version (length heads) (length tiles) ++ heads_text heads
+    ++ entries_text tiles
 
 -- the file HEAD: the number of the newest version in decimal without leading zeros, and a line feed
 abbrev pub head_file_text : ℕ → List ℕ

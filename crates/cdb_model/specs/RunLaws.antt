@@ -53,8 +53,8 @@ HaltedBeginsNone Has = (old new : KnownState) (items : List Item) (answers : Lis
 
 -- ---- sessions
 
--- a session that is open before and after a run is the same one and answers from the same sources: those of the first so
--- many publications, whatever was published since
+-- a session that is open before and after a run is the same one and answers from the same sources: those of the first
+-- so many publications, whatever was published since
 abbrev pub SessionsStay : (Text → Content → Type 0) → Type 0
 SessionsStay Has = (from : List Publication) (s t : KnownState) (before after : List Item) (said later : List Answer)
     → Run Has (start_at from) before said s → Run Has s after later t → (id : ℕ) (x y : Session)

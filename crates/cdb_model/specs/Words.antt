@@ -32,9 +32,11 @@ only_word read ws = option_and_then (λ p. if is_some (first_word p.1) then None
 
 -- a number of 1 to `most` digits
 unfoldable pub digits : ℕ → Text → Option ℕ
-digits most w = if nat_lt 0 (length w) && nat_le (length w) most && list_all is_ascii_digit w then Some (digits_value 10 w) else None
+digits most w = if nat_lt 0 (length w) && nat_le (length w) most && list_all is_ascii_digit w
+    then Some (digits_value 10 w) else None
 
 -- an optional minus, and 1 to `most` digits
 unfoldable pub signed : ℕ → Text → Option ℤ
 signed most [] = None
-signed most (c ∷ w) = if c == 45 then option_map (λ n. neg_ℤ (pos n)) (digits most w) else option_map (λ n. pos n) (digits most (c ∷ w))
+signed most (c ∷ w) = if c == 45 then option_map (λ n. neg_ℤ (pos n)) (digits most w)
+    else option_map (λ n. pos n) (digits most (c ∷ w))

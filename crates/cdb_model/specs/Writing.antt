@@ -1,4 +1,5 @@
--- The canonical writing of a line of the script: numbers without leading zeros, and fractions without a denominator of 1.
+-- The canonical writing of a line of the script: numbers without leading zeros, and fractions without a denominator of
+-- 1.
 use Rattle.std.specs.Prelude.{◌≡◌, ℕ, ◌^◌, ◌<◌, ◌≤◌, ℤ, pos, ◌≤ℤ◌, nat_abs, List, [], ◌∷◌, ◌++◌, length, map, codes, All, Some, if◌then◌else◌}
 use Rattle.std.specs.Fmt.{decimal, signed_decimal}
 use Rattle.std.specs.List.{join_with_byte}
@@ -23,7 +24,8 @@ head_words h =
 
 -- the words of a line
 abbrev pub sentence_words : Sentence → List Text
-sentence_words (inline s) = codes "inline" ∷ (head_words s.head ++ decimal s.rows ∷ decimal s.cols ∷ map signed_decimal s.posts)
+sentence_words (inline s) =
+    codes "inline" ∷ (head_words s.head ++ decimal s.rows ∷ decimal s.cols ∷ map signed_decimal s.posts)
 sentence_words (source s) = codes "source" ∷ (head_words s.head ++ signed_decimal s.novalue ∷ s.path ∷ [])
 sentence_words publish = codes "publish" ∷ []
 sentence_words (step n) = codes "step" ∷ decimal n ∷ []

@@ -32,20 +32,25 @@ two_again n h =
     let e : (48 + n / 10 - 48) * 10 + (48 + n % 10 - 48) ≡ n = omega arith in
     rw (a, b) (ap Some e)
 
-pub two_at_takes : (text : Text) (n : ℕ) (rest : Text) → two_at text ≡ Some (n, rest) → (text ≡ two n ++ rest) × (n < 100)
+pub two_at_takes : (text : Text) (n : ℕ) (rest : Text) → two_at text ≡ Some (n, rest)
+    → (text ≡ two n ++ rest) × (n < 100)
 two_at_takes [] n rest e = absurd cc
 two_at_takes (a ∷ []) n rest e = absurd cc
 two_at_takes (a ∷ b ∷ text) n rest e =
     let m = map_some (two_of a b) (λ n. (n, text)) (n, rest) e in
     let p = pair_is m.0 n text rest m.2 in
     let t = two_takes a b m.0 m.1 in
-    let whole : a ∷ b ∷ text ≡ two m.0 ++ text = ap (λ (f : Text). f ++ text) (sym t.0) in
-    (subst (λ (r : Text). a ∷ b ∷ text ≡ two n ++ r) p.1 (subst (λ (k : ℕ). a ∷ b ∷ text ≡ two k ++ text) p.0 whole), omega (arith, t.1, p.0))
+    let whole : a ∷ b ∷ text ≡ two m.0 ++ text = ap (λ (f : Text). f ++ text) (sym t.0) in (
+      subst (λ (r : Text). a ∷ b ∷ text ≡ two n ++ r) p.1 (subst (λ (k : ℕ). a ∷ b ∷ text ≡ two k ++ text) p.0 whole),
+      omega (arith, t.1, p.0),
+    )
 
-pub three_at_takes : (text : Text) (n : ℕ) (rest : Text) → three_at text ≡ Some (n, rest) → (text ≡ three n ++ rest) × (n < 1000)
+pub three_at_takes : (text : Text) (n : ℕ) (rest : Text) → three_at text ≡ Some (n, rest)
+    → (text ≡ three n ++ rest) × (n < 1000)
 three_at_takes [] n rest e = absurd cc
 three_at_takes (a ∷ text) n rest e =
-    let m = then_some (two_at text) (λ n. cond (is_ascii_digit a) (Some ((a - 48) * 100 + n.0, n.1)) None) (n, rest) e in
+    let m = then_some (two_at text) (λ n. cond (is_ascii_digit a) (Some ((a - 48) * 100 + n.0, n.1)) None) (n, rest)
+    e in
     let g = some_if (is_ascii_digit a) ((a - 48) * 100 + m.0.0, m.0.1) (n, rest) m.2 in
     let p = pair_is ((a - 48) * 100 + m.0.0) n m.0.1 rest g.1 in
     let t = two_at_takes text m.0.0 m.0.1 m.1 in
@@ -55,7 +60,8 @@ three_at_takes (a ∷ text) n rest e =
     let high : a ≡ 48 + n / 100 = omega arith in
     let least : m.0.0 ≡ n % 100 = omega arith in
     let whole : a ∷ text ≡ a ∷ (two m.0.0 ++ m.0.1) = ap (λ (r : Text). a ∷ r) t.0 in
-    let e1 : a ∷ text ≡ a ∷ (two (n % 100) ++ rest) = whole ∙ ap (λ (k : ℕ). a ∷ (two k ++ m.0.1)) least ∙ ap (λ (r : Text). a ∷ (two (n % 100) ++ r)) p.1 in
+    let e1 : a ∷ text ≡ a ∷ (two (n % 100) ++ rest) = whole ∙ ap (λ (k : ℕ). a ∷ (two k ++ m.0.1)) least
+    ∙ ap (λ (r : Text). a ∷ (two (n % 100) ++ r)) p.1 in
     (e1 ∙ ap (λ (k : ℕ). k ∷ (two (n % 100) ++ rest)) high, omega arith)
 
 pub three_at_again : (n : ℕ) (rest : Text) → n < 1000 → three_at (three n ++ rest) ≡ Some (n, rest)

@@ -21,7 +21,8 @@ below_zero (suc n) h = ap negsuc (omega arith)
 
 -- ---- prefixes
 
-pub starts_takes : (prefix text : Text) → starts_with nat_eq text prefix ≡ true → text ≡ prefix ++ drop (length prefix) text
+pub starts_takes : (prefix text : Text) → starts_with nat_eq text prefix ≡ true
+    → text ≡ prefix ++ drop (length prefix) text
 starts_takes [] text e = refl
 starts_takes (p ∷ prefix) [] e = absurd cc
 starts_takes (p ∷ prefix) (c ∷ text) e =
@@ -53,12 +54,14 @@ IsLat lat = (negsuc 89 ≤ℤ lat) × (lat ≤ℤ pos 89)
 
 lat_value : (letter n : ℕ) (l : ℤ) → lat_of letter n ≡ Some l → IsLat l × (lat_text l ≡ letter ∷ two n)
 lat_value letter n l e =
-    elim (chosen ((letter == 78) && nat_lt n 90) (Some (pos n)) (cond ((letter == 83) && (nat_lt 0 n && nat_le n 90)) (Some (neg_ℤ (pos n))) None) (Some l) e) [
+    elim (chosen ((letter == 78) && nat_lt n 90) (Some (pos n))
+    (cond ((letter == 83) && (nat_lt 0 n && nat_le n 90)) (Some (neg_ℤ (pos n))) None) (Some l) e) [
       | inl h ↦
           let t = both (letter == 78) (nat_lt n 90) h.0 in
           let c : letter ≡ 78 = eqb-true letter 78 t.0 in
           let lt : n < 90 = ltb-true n 90 t.1 in
-          subst (λ (z : ℤ). IsLat z × (lat_text z ≡ letter ∷ two n)) (some_is (pos n) l h.1) ((omega (arith, ints), omega (arith, ints)), rw c refl)
+          subst (λ (z : ℤ). IsLat z × (lat_text z ≡ letter ∷ two n)) (some_is (pos n) l h.1)
+          ((omega (arith, ints), omega (arith, ints)), rw c refl)
       | inr h ↦
           let g = some_if ((letter == 83) && (nat_lt 0 n && nat_le n 90)) (neg_ℤ (pos n)) l h.1 in
           let t = both (letter == 83) (nat_lt 0 n && nat_le n 90) g.0 in
@@ -67,10 +70,12 @@ lat_value letter n l e =
           let lt : 0 < n = ltb-true 0 n u.0 in
           let le : n ≤ 90 = leb-true n 90 u.1 in
           let one : n - 1 + 1 ≡ n = omega arith in
-          subst (λ (z : ℤ). IsLat z × (lat_text z ≡ letter ∷ two n)) (sym (below_zero n lt) ∙ g.1) ((omega (arith, ints), omega (arith, ints)), rw (c, one) refl)
+          subst (λ (z : ℤ). IsLat z × (lat_text z ≡ letter ∷ two n)) (sym (below_zero n lt) ∙ g.1)
+          ((omega (arith, ints), omega (arith, ints)), rw (c, one) refl)
     ]
 
-pub lat_takes : (text : Text) (l : ℤ) (rest : Text) → lat_at text ≡ Some (l, rest) → IsLat l × (text ≡ lat_text l ++ rest)
+pub lat_takes : (text : Text) (l : ℤ) (rest : Text) → lat_at text ≡ Some (l, rest) → IsLat l
+    × (text ≡ lat_text l ++ rest)
 unfolding lat_at
 lat_takes [] l rest e = absurd cc
 lat_takes (letter ∷ text) l rest e =
@@ -79,8 +84,12 @@ lat_takes (letter ∷ text) l rest e =
     let p = pair_is c.0 l b.0.1 rest (some_is _ _ c.2) in
     let v = lat_value letter b.0.0 c.0 c.1 in
     let t = two_at_takes text b.0.0 b.0.1 b.1 in
-    let whole : letter ∷ text ≡ lat_text c.0 ++ b.0.1 = ap (λ (r : Text). letter ∷ r) t.0 ∙ sym (ap (λ (f : Text). f ++ b.0.1) v.1) in
-    (subst IsLat p.0 v.0, subst (λ (z : ℤ). letter ∷ text ≡ lat_text z ++ rest) p.0 (subst (λ (r : Text). letter ∷ text ≡ lat_text c.0 ++ r) p.1 whole))
+    let whole : letter ∷ text ≡ lat_text c.0 ++ b.0.1 = ap (λ (r : Text). letter ∷ r) t.0
+    ∙ sym (ap (λ (f : Text). f ++ b.0.1) v.1) in (
+      subst IsLat p.0 v.0,
+      subst (λ (z : ℤ). letter ∷ text ≡ lat_text z ++ rest)
+          p.0 (subst (λ (r : Text). letter ∷ text ≡ lat_text c.0 ++ r) p.1 whole),
+    )
 
 lat_value_again : (n : ℕ) → n < 90 → (lat_of 78 n ≡ Some (pos n)) × (lat_of 83 (n + 1) ≡ Some (negsuc n))
 lat_value_again n h =
@@ -92,8 +101,10 @@ lat_value_again n h =
 
 pub lat_again : (l : ℤ) (rest : Text) → IsLat l → lat_at (lat_text l ++ rest) ≡ Some (l, rest)
 unfolding lat_at
-lat_again (pos n) rest h = let lt : n < 90 = omega (arith, ints, h.1) in rw (two_again n (omega arith), (lat_value_again n lt).0) refl
-lat_again (negsuc n) rest h = let lt : n < 90 = omega (arith, ints, h.0) in rw (two_again (n + 1) (omega arith), (lat_value_again n lt).1) refl
+lat_again (pos n) rest h = let lt : n < 90 = omega (arith, ints, h.1) in
+    rw (two_again n (omega arith), (lat_value_again n lt).0) refl
+lat_again (negsuc n) rest h = let lt : n < 90 = omega (arith, ints, h.0) in
+    rw (two_again (n + 1) (omega arith), (lat_value_again n lt).1) refl
 
 -- ---- longitude
 
@@ -106,12 +117,14 @@ InGlobe lon = (negsuc 179 ≤ℤ lon) × (lon ≤ℤ pos 179)
 
 lon_value : (letter n : ℕ) (l : ℤ) → lon_of letter n ≡ Some l → InGlobe l × (lon_text l ≡ letter ∷ three n)
 lon_value letter n l e =
-    elim (chosen ((letter == 69) && nat_lt n 180) (Some (pos n)) (cond ((letter == 87) && (nat_lt 0 n && nat_le n 180)) (Some (neg_ℤ (pos n))) None) (Some l) e) [
+    elim (chosen ((letter == 69) && nat_lt n 180) (Some (pos n))
+    (cond ((letter == 87) && (nat_lt 0 n && nat_le n 180)) (Some (neg_ℤ (pos n))) None) (Some l) e) [
       | inl h ↦
           let t = both (letter == 69) (nat_lt n 180) h.0 in
           let c : letter ≡ 69 = eqb-true letter 69 t.0 in
           let lt : n < 180 = ltb-true n 180 t.1 in
-          subst (λ (z : ℤ). InGlobe z × (lon_text z ≡ letter ∷ three n)) (some_is (pos n) l h.1) ((omega (arith, ints), omega (arith, ints)), rw c refl)
+          subst (λ (z : ℤ). InGlobe z × (lon_text z ≡ letter ∷ three n)) (some_is (pos n) l h.1)
+          ((omega (arith, ints), omega (arith, ints)), rw c refl)
       | inr h ↦
           let g = some_if ((letter == 87) && (nat_lt 0 n && nat_le n 180)) (neg_ℤ (pos n)) l h.1 in
           let t = both (letter == 87) (nat_lt 0 n && nat_le n 180) g.0 in
@@ -120,10 +133,12 @@ lon_value letter n l e =
           let lt : 0 < n = ltb-true 0 n u.0 in
           let le : n ≤ 180 = leb-true n 180 u.1 in
           let one : n - 1 + 1 ≡ n = omega arith in
-          subst (λ (z : ℤ). InGlobe z × (lon_text z ≡ letter ∷ three n)) (sym (below_zero n lt) ∙ g.1) ((omega (arith, ints), omega (arith, ints)), rw (c, one) refl)
+          subst (λ (z : ℤ). InGlobe z × (lon_text z ≡ letter ∷ three n)) (sym (below_zero n lt) ∙ g.1)
+          ((omega (arith, ints), omega (arith, ints)), rw (c, one) refl)
     ]
 
-pub lon_takes : (lat : ℤ) (text : Text) (l : ℤ) (rest : Text) → lon_at lat text ≡ Some (l, rest) → IsLon lat l × (text ≡ lon_text l ++ rest)
+pub lon_takes : (lat : ℤ) (text : Text) (l : ℤ) (rest : Text) → lon_at lat text ≡ Some (l, rest) → IsLon lat l
+    × (text ≡ lon_text l ++ rest)
 unfolding lon_at
 lon_takes lat [] l rest e = absurd cc
 lon_takes lat (letter ∷ text) l rest e =
@@ -134,9 +149,13 @@ lon_takes lat (letter ∷ text) l rest e =
     let grid : column_of c.0 % width_at (row_of lat) ≡ 0 = eqb-true (column_of c.0 % width_at (row_of lat)) 0 g.0 in
     let v = lon_value letter b.0.0 c.0 c.1 in
     let t = three_at_takes text b.0.0 b.0.1 b.1 in
-    let whole : letter ∷ text ≡ lon_text c.0 ++ b.0.1 = ap (λ (r : Text). letter ∷ r) t.0 ∙ sym (ap (λ (f : Text). f ++ b.0.1) v.1) in
-    let facts : IsLon lat c.0 = (v.0.0, v.0.1, grid) in
-    (subst (IsLon lat) p.0 facts, subst (λ (z : ℤ). letter ∷ text ≡ lon_text z ++ rest) p.0 (subst (λ (r : Text). letter ∷ text ≡ lon_text c.0 ++ r) p.1 whole))
+    let whole : letter ∷ text ≡ lon_text c.0 ++ b.0.1 = ap (λ (r : Text). letter ∷ r) t.0
+    ∙ sym (ap (λ (f : Text). f ++ b.0.1) v.1) in
+    let facts : IsLon lat c.0 = (v.0.0, v.0.1, grid) in (
+      subst (IsLon lat) p.0 facts,
+      subst (λ (z : ℤ). letter ∷ text ≡ lon_text z ++ rest)
+          p.0 (subst (λ (r : Text). letter ∷ text ≡ lon_text c.0 ++ r) p.1 whole),
+    )
 
 lon_value_again : (n : ℕ) → n < 180 → (lon_of 69 n ≡ Some (pos n)) × (lon_of 87 (n + 1) ≡ Some (negsuc n))
 lon_value_again n h =
@@ -166,29 +185,40 @@ dataset_len Low = refl
 dataset_len High = refl
 dataset_len Mat = refl
 
-starts_with_dataset : (f : Family) (text : Text) → starts_with nat_eq text (dataset_text f) ≡ true → text ≡ dataset_text f ++ drop 15 text
-starts_with_dataset f text e = starts_takes (dataset_text f) text e ∙ ap (λ (k : ℕ). dataset_text f ++ drop k text) (dataset_len f)
+starts_with_dataset : (f : Family) (text : Text) → starts_with nat_eq text (dataset_text f) ≡ true
+    → text ≡ dataset_text f ++ drop 15 text
+starts_with_dataset f text e = starts_takes (dataset_text f) text e
+    ∙ ap (λ (k : ℕ). dataset_text f ++ drop k text) (dataset_len f)
 
 family_value : (text : Text) (f : Family) → family_of text ≡ Some f → text ≡ dataset_text f ++ drop 15 text
-family_value text f e = by (starts_with nat_eq text (codes "_D001_S001_T001")) (starts_with nat_eq text (codes "_D002_S001_T001")) (starts_with nat_eq text (codes "_D002_S001_T002")) (starts_with nat_eq text (codes "_D005_S001_T001")) refl refl refl refl e
+family_value text f e = by (starts_with nat_eq text (codes "_D001_S001_T001"))
+    (starts_with nat_eq text (codes "_D002_S001_T001")) (starts_with nat_eq text (codes "_D002_S001_T002"))
+    (starts_with nat_eq text (codes "_D005_S001_T001")) refl refl refl refl e
   where
-    found : (g : Family) → starts_with nat_eq text (dataset_text g) ≡ true → Some g ≡ Some f → text ≡ dataset_text f ++ drop 15 text
-    found g s i = subst (λ (h : Family). text ≡ dataset_text h ++ drop 15 text) (some_is g f i) (starts_with_dataset g text s)
+    found : (g : Family) → starts_with nat_eq text (dataset_text g) ≡ true → Some g ≡ Some f
+        → text ≡ dataset_text f ++ drop 15 text
+    found g s i = subst (λ (h : Family). text ≡ dataset_text h ++ drop 15 text) (some_is g f i)
+        (starts_with_dataset g text s)
 
-    by : (a b c d : Bool) → starts_with nat_eq text (codes "_D001_S001_T001") ≡ a → starts_with nat_eq text (codes "_D002_S001_T001") ≡ b → starts_with nat_eq text (codes "_D002_S001_T002") ≡ c → starts_with nat_eq text (codes "_D005_S001_T001") ≡ d
-        → cond a (Some Elev) (cond b (Some Low) (cond c (Some High) (cond d (Some Mat) None))) ≡ Some f → text ≡ dataset_text f ++ drop 15 text
+    by : (a b c d : Bool) → starts_with nat_eq text (codes "_D001_S001_T001") ≡ a
+        → starts_with nat_eq text (codes "_D002_S001_T001") ≡ b → starts_with nat_eq text (codes "_D002_S001_T002") ≡ c
+        → starts_with nat_eq text (codes "_D005_S001_T001") ≡ d
+        → cond a (Some Elev) (cond b (Some Low) (cond c (Some High) (cond d (Some Mat) None))) ≡ Some f
+        → text ≡ dataset_text f ++ drop 15 text
     by true b c d p q r s i = found Elev p i
     by false true c d p q r s i = found Low q i
     by false false true d p q r s i = found High r i
     by false false false true p q r s i = found Mat s i
     by false false false false p q r s i = absurd cc
 
-pub family_takes : (text : Text) (f : Family) (rest : Text) → family_at text ≡ Some (f, rest) → text ≡ dataset_text f ++ rest
+pub family_takes : (text : Text) (f : Family) (rest : Text) → family_at text ≡ Some (f, rest)
+    → text ≡ dataset_text f ++ rest
 unfolding family_at
 family_takes text f rest e =
     let m = map_some (family_of text) (λ family. (family, drop 15 text)) (f, rest) e in
     let p = pair_is m.0 f (drop 15 text) rest m.2 in
-    subst (λ (r : Text). text ≡ dataset_text f ++ r) p.1 (subst (λ (g : Family). text ≡ dataset_text g ++ drop 15 text) p.0 (family_value text m.0 m.1))
+    subst (λ (r : Text). text ≡ dataset_text f ++ r)
+    p.1 (subst (λ (g : Family). text ≡ dataset_text g ++ drop 15 text) p.0 (family_value text m.0 m.1))
 
 pub family_again : (f : Family) (rest : Text) → family_at (dataset_text f ++ rest) ≡ Some (f, rest)
 unfolding family_at
@@ -202,7 +232,8 @@ family_again Mat rest = refl
 abbrev pub IsLevel : ℤ → Type 0
 IsLevel l = (negsuc 9 ≤ℤ l) × (l ≤ℤ pos 23)
 
-coarse_takes : (text : Text) (l : ℤ) (rest : Text) → coarse_at text ≡ Some (l, rest) → IsLevel l × (text ≡ level_text l ++ rest)
+coarse_takes : (text : Text) (l : ℤ) (rest : Text) → coarse_at text ≡ Some (l, rest) → IsLevel l
+    × (text ≡ level_text l ++ rest)
 unfolding coarse_at
 coarse_takes text l rest e =
     let a = then_some (after (codes "_LC") text) _ (l, rest) e in
@@ -217,12 +248,16 @@ coarse_takes text l rest e =
     let is : negsuc (b.0.0 - 1) ≡ l = sym (below_zero b.0.0 lt) ∙ g.1 ∙ p.0 in
     let one : b.0.0 - 1 + 1 ≡ b.0.0 = omega arith in
     let t = two_at_takes a.0 b.0.0 b.0.1 b.1 in
-    let whole : text ≡ 95 ∷ 76 ∷ 67 ∷ (two b.0.0 ++ b.0.1) = after_takes (codes "_LC") text a.0 a.1 ∙ ap (λ (r : Text). 95 ∷ 76 ∷ 67 ∷ r) t.0 in
-    let spelled : text ≡ level_text (negsuc (b.0.0 - 1)) ++ rest = whole ∙ ap (λ (k : ℕ). 95 ∷ 76 ∷ 67 ∷ (two k ++ b.0.1)) (sym one) ∙ ap (λ (r : Text). level_text (negsuc (b.0.0 - 1)) ++ r) p.1 in
+    let whole : text ≡ 95 ∷ 76 ∷ 67 ∷ (two b.0.0 ++ b.0.1) = after_takes (codes "_LC") text a.0 a.1
+    ∙ ap (λ (r : Text). 95 ∷ 76 ∷ 67 ∷ r) t.0 in
+    let spelled : text ≡ level_text (negsuc (b.0.0 - 1)) ++ rest = whole
+    ∙ ap (λ (k : ℕ). 95 ∷ 76 ∷ 67 ∷ (two k ++ b.0.1)) (sym one)
+    ∙ ap (λ (r : Text). level_text (negsuc (b.0.0 - 1)) ++ r) p.1 in
     let facts : IsLevel (negsuc (b.0.0 - 1)) = (omega (arith, ints), omega (arith, ints)) in
     (subst IsLevel is facts, subst (λ (z : ℤ). text ≡ level_text z ++ rest) is spelled)
 
-fine_takes : (text : Text) (l : ℤ) (rest : Text) → fine_at text ≡ Some (l, rest) → IsLevel l × (text ≡ level_text l ++ rest)
+fine_takes : (text : Text) (l : ℤ) (rest : Text) → fine_at text ≡ Some (l, rest) → IsLevel l
+    × (text ≡ level_text l ++ rest)
 unfolding fine_at
 fine_takes text l rest e =
     let a = then_some (after (codes "_L") text) _ (l, rest) e in
@@ -233,12 +268,14 @@ fine_takes text l rest e =
     let lt : b.0.0 < 24 = ltb-true b.0.0 24 g.0 in
     let is : pos b.0.0 ≡ l = g.1 ∙ p.0 in
     let t = two_at_takes a.0 b.0.0 b.0.1 b.1 in
-    let whole : text ≡ 95 ∷ 76 ∷ (two b.0.0 ++ b.0.1) = after_takes (codes "_L") text a.0 a.1 ∙ ap (λ (r : Text). 95 ∷ 76 ∷ r) t.0 in
+    let whole : text ≡ 95 ∷ 76 ∷ (two b.0.0 ++ b.0.1) = after_takes (codes "_L") text a.0 a.1
+    ∙ ap (λ (r : Text). 95 ∷ 76 ∷ r) t.0 in
     let spelled : text ≡ level_text (pos b.0.0) ++ rest = whole ∙ ap (λ (r : Text). level_text (pos b.0.0) ++ r) p.1 in
     let facts : IsLevel (pos b.0.0) = (omega (arith, ints), omega (arith, ints)) in
     (subst IsLevel is facts, subst (λ (z : ℤ). text ≡ level_text z ++ rest) is spelled)
 
-pub level_takes : (text : Text) (l : ℤ) (rest : Text) → level_at text ≡ Some (l, rest) → IsLevel l × (text ≡ level_text l ++ rest)
+pub level_takes : (text : Text) (l : ℤ) (rest : Text) → level_at text ≡ Some (l, rest) → IsLevel l
+    × (text ≡ level_text l ++ rest)
 unfolding level_at
 level_takes text l rest e =
     elim (chosen (starts_with nat_eq text (codes "_LC")) (coarse_at text) (fine_at text) (Some (l, rest)) e) [
@@ -261,14 +298,18 @@ level_again (negsuc n) rest h =
 
 -- ---- up and right
 
-pub numbered_takes : (prefix : Text) (limit : ℕ) (text : Text) (n : ℕ) (rest : Text) → limit ≤ 2 ^ 32 → numbered_at prefix limit text ≡ Some (n, rest) → (n < limit) × (text ≡ prefix ++ (decimal n ++ rest)) × (begins_with_digit rest ≡ false)
+pub numbered_takes : (prefix : Text) (limit : ℕ) (text : Text) (n : ℕ) (rest : Text) → limit ≤ 2 ^ 32
+    → numbered_at prefix limit text ≡ Some (n, rest) → (n < limit) × (text ≡ prefix ++ (decimal n ++ rest))
+    × (begins_with_digit rest ≡ false)
 unfolding numbered_at
 numbered_takes prefix limit text n rest small e =
     let a = then_some (after prefix text) (λ rest. bounded_number_at limit rest) (n, rest) e in
     let t = number_takes limit a.0 n rest small a.2 in
     (t.0, after_takes prefix text a.0 a.1 ∙ ap (λ (r : Text). prefix ++ r) t.1, t.2)
 
-pub numbered_again : (prefix : Text) (limit n : ℕ) (rest : Text) → n < limit → limit ≤ 2 ^ 32 → begins_with_digit rest ≡ false → numbered_at prefix limit (prefix ++ (decimal n ++ rest)) ≡ Some (n, rest)
+pub numbered_again : (prefix : Text) (limit n : ℕ) (rest : Text) → n < limit → limit ≤ 2 ^ 32 → begins_with_digit rest
+    ≡ false → numbered_at prefix limit (prefix ++ (decimal n ++ rest)) ≡ Some (n, rest)
 unfolding numbered_at
 numbered_again prefix limit n rest lt small e =
-    ap (option_and_then (λ rest. bounded_number_at limit rest)) (after_again prefix (decimal n ++ rest)) ∙ number_again limit n rest lt small e
+    ap (option_and_then (λ rest. bounded_number_at limit rest)) (after_again prefix (decimal n ++ rest))
+    ∙ number_again limit n rest lt small e

@@ -59,7 +59,8 @@ abbrev pub lat_for : Option Folder → ℤ
 lat_for None = pos 0
 lat_for (Some f) = f.lat
 
-pub lat_for_is : (folder : Option Folder) → IsSound folder → IsLat (lat_for folder) × (has_lat folder (lat_for folder) ≡ true)
+pub lat_for_is : (folder : Option Folder) → IsSound folder → IsLat (lat_for folder)
+    × (has_lat folder (lat_for folder) ≡ true)
 lat_for_is None sound = ((omega (arith, ints), omega (arith, ints)), refl)
 lat_for_is (Some f) sound = (sound.lat, (signed_Decides f.lat f.lat).1 refl)
 
@@ -68,7 +69,8 @@ abbrev pub lon_for : Option Folder → ℤ
 lon_for None = negsuc 179
 lon_for (Some f) = f.lon
 
-pub lon_for_is : (folder : Option Folder) → IsSound folder → (l : ℤ) → has_lat folder l ≡ true → IsLon l (lon_for folder) × (has_lon folder (lon_for folder) ≡ true)
+pub lon_for_is : (folder : Option Folder) → IsSound folder → (l : ℤ) → has_lat folder l ≡ true
+    → IsLon l (lon_for folder) × (has_lon folder (lon_for folder) ≡ true)
 lon_for_is None sound l h = ((omega (arith, ints), omega (arith, ints), zero-mod (width_at (row_of l))), refl)
 lon_for_is (Some f) sound l h =
     let same : f.lat ≡ l = (signed_Decides f.lat l).0 h in
@@ -93,7 +95,8 @@ abbrev pub level_for : Option Folder → ℤ
 level_for None = pos 0
 level_for (Some f) = some_level f.level
 
-pub level_for_is : (folder : Option Folder) → IsSound folder → IsLevel (level_for folder) × (has_level folder (level_for folder) ≡ true)
+pub level_for_is : (folder : Option Folder) → IsSound folder → IsLevel (level_for folder)
+    × (has_level folder (level_for folder) ≡ true)
 level_for_is None sound = ((omega (arith, ints), omega (arith, ints)), refl)
 level_for_is (Some f) sound = (sound.level, by f.level)
   where
@@ -106,11 +109,13 @@ abbrev pub up_for : Option Folder → ℕ
 up_for None = 0
 up_for (Some f) = f.up
 
-pub up_for_is : (folder : Option Folder) → IsSound folder → (l : ℤ) → has_level folder l ≡ true → (up_for folder < across l) × (has_up folder (up_for folder) ≡ true)
+pub up_for_is : (folder : Option Folder) → IsSound folder → (l : ℤ) → has_level folder l ≡ true
+    → (up_for folder < across l) × (has_up folder (up_for folder) ≡ true)
 up_for_is None sound l h = (across_pos l, refl)
 up_for_is (Some f) sound l h = (by f.level l h sound.up, eq-eqb f.up f.up refl)
   where
-    by : (d : LevelFolder) (l : ℤ) → same_level d (level_folder_of l) ≡ true → f.up < across (some_level d) → f.up < across l
+    by : (d : LevelFolder) (l : ℤ) → same_level d (level_folder_of l) ≡ true → f.up < across (some_level d)
+        → f.up < across l
     by BelowZero (pos n) h up = absurd cc
     by BelowZero (negsuc n) h up = omega (arith, across_coarse n, across_coarse 0, up)
     by (At m) (pos n) h up = let e : m ≡ n = eqb-true m n h in subst (λ (k : ℕ). f.up < across (pos k)) e up
@@ -126,7 +131,15 @@ some_tile folder sound =
     record {
       tile = record {
         family = family_for folder;
-        cell = record { lat = lat_for folder; lon = lon_for folder; south = lat.0.0; north = lat.0.1; west = lon.0.0; east = lon.0.1; on_grid = lon.0.2 };
+        cell = record {
+          lat = lat_for folder;
+          lon = lon_for folder;
+          south = lat.0.0;
+          north = lat.0.1;
+          west = lon.0.0;
+          east = lon.0.1;
+          on_grid = lon.0.2;
+        };
         level = record { number = level_for folder; coarsest = level.0.0; finest = level.0.1 };
         up = up_for folder;
         right = 0;
@@ -141,13 +154,22 @@ some_tile folder sound =
     }
 
 -- a tile of the folder with another latitude, and some longitude of it
-unfoldable pub with_lat : (folder : Option Folder) → IsSound folder → InFolder folder → (l : ℤ) → IsLat l → has_lat folder l ≡ true → InFolder folder
+unfoldable pub with_lat : (folder : Option Folder) → IsSound folder → InFolder folder → (l : ℤ) → IsLat l
+    → has_lat folder l ≡ true → InFolder folder
 with_lat folder sound x l is has =
     let lon = lon_for_is folder sound l has in
     record {
       tile = record {
         family = x.tile.family;
-        cell = record { lat = l; lon = lon_for folder; south = is.0; north = is.1; west = lon.0.0; east = lon.0.1; on_grid = lon.0.2 };
+        cell = record {
+          lat = l;
+          lon = lon_for folder;
+          south = is.0;
+          north = is.1;
+          west = lon.0.0;
+          east = lon.0.1;
+          on_grid = lon.0.2;
+        };
         level = x.tile.level;
         up = x.tile.up;
         right = x.tile.right;
@@ -161,11 +183,20 @@ with_lat folder sound x l is has =
       up = x.up;
     }
 
-unfoldable pub with_lon : (folder : Option Folder) → (x : InFolder folder) → (l : ℤ) → IsLon x.tile.cell.lat l → has_lon folder l ≡ true → InFolder folder
+unfoldable pub with_lon : (folder : Option Folder) → (x : InFolder folder) → (l : ℤ) → IsLon x.tile.cell.lat l
+    → has_lon folder l ≡ true → InFolder folder
 with_lon folder x l is has = record {
   tile = record {
     family = x.tile.family;
-    cell = record { lat = x.tile.cell.lat; lon = l; south = x.tile.cell.south; north = x.tile.cell.north; west = is.0; east = is.1; on_grid = is.2 };
+    cell = record {
+      lat = x.tile.cell.lat;
+      lon = l;
+      south = x.tile.cell.south;
+      north = x.tile.cell.north;
+      west = is.0;
+      east = is.1;
+      on_grid = is.2;
+    };
     level = x.tile.level;
     up = x.tile.up;
     right = x.tile.right;
@@ -179,7 +210,8 @@ with_lon folder x l is has = record {
   up = x.up;
 }
 
-unfoldable pub with_family : (folder : Option Folder) → InFolder folder → (f : Family) → has_dataset folder f ≡ true → InFolder folder
+unfoldable pub with_family : (folder : Option Folder) → InFolder folder → (f : Family) → has_dataset folder f ≡ true
+    → InFolder folder
 with_family folder x f has = record {
   tile = record {
     family = f;
@@ -198,7 +230,8 @@ with_family folder x f has = record {
 }
 
 -- a tile of the folder with another level, and some row and column of it
-unfoldable pub with_level : (folder : Option Folder) → IsSound folder → InFolder folder → (l : ℤ) → IsLevel l → has_level folder l ≡ true → InFolder folder
+unfoldable pub with_level : (folder : Option Folder) → IsSound folder → InFolder folder → (l : ℤ) → IsLevel l
+    → has_level folder l ≡ true → InFolder folder
 with_level folder sound x l is has =
     let up = up_for_is folder sound l has in
     record {
@@ -218,7 +251,8 @@ with_level folder sound x l is has =
       up = up.1;
     }
 
-unfoldable pub with_up : (folder : Option Folder) → (x : InFolder folder) → (n : ℕ) → n < across x.tile.level.number → has_up folder n ≡ true → InFolder folder
+unfoldable pub with_up : (folder : Option Folder) → (x : InFolder folder) → (n : ℕ) → n < across x.tile.level.number
+    → has_up folder n ≡ true → InFolder folder
 with_up folder x n small has = record {
   tile = record {
     family = x.tile.family;
@@ -236,7 +270,8 @@ with_up folder x n small has = record {
   up = has;
 }
 
-unfoldable pub with_right : (folder : Option Folder) → (x : InFolder folder) → (n : ℕ) → n < across x.tile.level.number → InFolder folder
+unfoldable pub with_right : (folder : Option Folder) → (x : InFolder folder) → (n : ℕ) → n < across x.tile.level.number
+    → InFolder folder
 with_right folder x n small = record {
   tile = record {
     family = x.tile.family;

@@ -41,9 +41,11 @@ seven : (n : ℕ) → n < 10 ^ 7 → length (decimal n) ≤ 7
 seven n small = length-decimal-le 7 n (omega arith) small (omega arith)
 
 -- below level 0 there is one tile, so its row has one digit
-level_and_row : (level : ℤ) (up : ℕ) → up < across level → up < 10 ^ 7 → length (level_text level) + length (decimal up) ≤ 11
+level_and_row : (level : ℤ) (up : ℕ) → up < across level → up < 10 ^ 7
+    → length (level_text level) + length (decimal up) ≤ 11
 level_and_row (pos n) up lt small = omega (arith, seven up small)
-level_and_row (negsuc n) up lt small = let one : length (decimal up) ≤ 1 = length-decimal-le 1 up (omega arith) (omega (arith, across_coarse n)) (omega arith) in omega (arith, one)
+level_and_row (negsuc n) up lt small = let one : length (decimal up) ≤ 1 =
+    length-decimal-le 1 up (omega arith) (omega (arith, across_coarse n)) (omega arith) in omega (arith, one)
 
 pub names_short : NamesAreShort
 names_short t =
@@ -73,7 +75,11 @@ slashed_len : (part rest : Text) → length ((part ++ 47 ∷ []) ++ rest) ≡ le
 slashed_len part rest = omega (arith, length-append (part ++ 47 ∷ []) rest, length-append part (47 ∷ []))
 
 -- seven folders, each with its slash, and then a file name
-seven_folders : (a b c d e f g rest : Text) → length ((a ++ 47 ∷ []) ++ ((b ++ 47 ∷ []) ++ ((c ++ 47 ∷ []) ++ ((d ++ 47 ∷ []) ++ ((e ++ 47 ∷ []) ++ ((f ++ 47 ∷ []) ++ ((g ++ 47 ∷ []) ++ rest)))))))
+seven_folders : (a b c d e f g rest : Text)
+    → length
+    ((a ++ 47 ∷ [])
+    ++ ((b ++ 47 ∷ [])
+    ++ ((c ++ 47 ∷ []) ++ ((d ++ 47 ∷ []) ++ ((e ++ 47 ∷ []) ++ ((f ++ 47 ∷ []) ++ ((g ++ 47 ∷ []) ++ rest)))))))
     ≡ length a + length b + length c + length d + length e + length f + length g + 7 + length rest
 seven_folders a b c d e f g rest =
     let r6 = (g ++ 47 ∷ []) ++ rest in
@@ -82,7 +88,16 @@ seven_folders a b c d e f g rest =
     let r3 = (d ++ 47 ∷ []) ++ r4 in
     let r2 = (c ++ 47 ∷ []) ++ r3 in
     let r1 = (b ++ 47 ∷ []) ++ r2 in
-    omega (arith, slashed_len a r1, slashed_len b r2, slashed_len c r3, slashed_len d r4, slashed_len e r5, slashed_len f r6, slashed_len g rest)
+    omega (
+      arith,
+      slashed_len a r1,
+      slashed_len b r2,
+      slashed_len c r3,
+      slashed_len d r4,
+      slashed_len e r5,
+      slashed_len f r6,
+      slashed_len g rest,
+    )
 
 pub paths_short : PathsAreShort
 paths_short x =
@@ -93,7 +108,8 @@ paths_short x =
     let digits : length row ≤ 8 = omega (arith, seven t.up (omega (arith, up_small t))) in
     omega (
       arith,
-      seven_folders (version_folder x.version) (codes "Tiles") (lat_text t.cell.lat) (lon_text t.cell.lon) (dataset_folder t.family) (level_folder t.level.number) row (name t),
+      seven_folders (version_folder x.version) (codes "Tiles") (lat_text t.cell.lat) (lon_text t.cell.lon)
+          (dataset_folder t.family) (level_folder t.level.number) row (name t),
       nine,
       five,
       digits,

@@ -13,7 +13,9 @@ use Rattle.cdb_names.proofs.SameTile.{same_tile}
 
 -- the name of the numbers
 abbrev name_of : Spelled → Text
-name_of s = spell (lat_text s.lat ∷ lon_text s.lon ∷ dataset_text s.family ∷ level_text s.level ∷ up_text s.up ∷ right_text s.right ∷ codes ".tif" ∷ []) []
+name_of s =
+    spell (lat_text s.lat ∷ lon_text s.lon ∷ dataset_text s.family ∷ level_text s.level ∷ up_text s.up
+    ∷ right_text s.right ∷ codes ".tif" ∷ []) []
 
 pub same_name : (a b : Tile) → spelled_tile a ≡ spelled_tile b → name a ≡ name b
 same_name a b e = ap name_of e
@@ -24,21 +26,25 @@ spell_longer [] rest = omega arith
 spell_longer (f ∷ fs) rest = omega (arith, spell_longer fs rest, length-append f (spell fs rest))
 
 -- where the rest begins
-pub begins_at : (text rest : Text) (fs : List Text) → text ≡ spell fs rest → (length text - length rest) + length rest ≡ length text
+pub begins_at : (text rest : Text) (fs : List Text) → text ≡ spell fs rest
+    → (length text - length rest) + length rest ≡ length text
 begins_at text rest fs e = omega (arith, spell_longer fs rest, ap length e)
 
 -- every tile stands in no folder
 unfoldable pub anywhere : Tile → InFolder None
 anywhere t = record { tile = t; lat = refl; lon = refl; dataset = refl; level = refl; up = refl }
 
-pub name_found : (text : Text) (r : Result Tile NameError) → IsReadAs spelled_tile r (name_at None text text) → IfOk r (λ t. text ≡ name t)
+pub name_found : (text : Text) (r : Result Tile NameError) → IsReadAs spelled_tile r (name_at None text text)
+    → IfOk r (λ t. text ≡ name t)
 name_found text (Ok t) e = let s = name_says None tt text text (Ok (spelled_tile t)) e in s.2 ∙ same_name s.0.tile t s.1
 name_found text (Err e) h = tt
 
-pub name_only : (text : Text) (r : Result Tile NameError) → IsReadAs spelled_tile r (name_at None text text) → (t : Tile) → text ≡ name t → r ≡ Ok t
+pub name_only : (text : Text) (r : Result Tile NameError) → IsReadAs spelled_tile r (name_at None text text)
+    → (t : Tile) → text ≡ name t → r ≡ Ok t
 unfolding anywhere
 name_only text (Ok found) e t is =
-    let again : name_at None text text ≡ Ok (spelled_tile t) = ap (λ (x : Text). name_at None text x) is ∙ name_again None tt text (anywhere t) in
+    let again : name_at None text text ≡ Ok (spelled_tile t) = ap (λ (x : Text). name_at None text x) is
+    ∙ name_again None tt text (anywhere t) in
     let k : ◌≡◌ {A = Result Spelled NameError} (Ok (spelled_tile found)) (Ok (spelled_tile t)) = sym e ∙ again in
     let s : spelled_tile found ≡ spelled_tile t = ok_is (spelled_tile found) (spelled_tile t) k in
     ap Ok (same_tile found t s)
@@ -46,7 +52,8 @@ name_only text (Ok found) e t is =
     ok_is : (a b : Spelled) → ◌≡◌ {A = Result Spelled NameError} (Ok a) (Ok b) → a ≡ b
     ok_is a b h = cc
 name_only text (Err wrong) e t is =
-    let again : name_at None text text ≡ Ok (spelled_tile t) = ap (λ (x : Text). name_at None text x) is ∙ name_again None tt text (anywhere t) in
+    let again : name_at None text text ≡ Ok (spelled_tile t) = ap (λ (x : Text). name_at None text x) is
+    ∙ name_again None tt text (anywhere t) in
     let k : ◌≡◌ {A = Result Spelled NameError} (Err wrong) (Ok (spelled_tile t)) = sym e ∙ again in
     absurd cc
 
@@ -54,11 +61,17 @@ name_only text (Err wrong) e t is =
 anywhere_settles : (text rest : Text) → Settles (fields_in {folder = None}) text rest → Settles name_fields text rest
 unfolding anywhere
 anywhere_settles text rest s = record {
-  stops = record { value = s.stops.value.tile; count = s.stops.count; begins = s.stops.begins; no_more = λ other after b. s.stops.no_more (anywhere other) after b };
+  stops = record {
+    value = s.stops.value.tile;
+    count = s.stops.count;
+    begins = s.stops.begins;
+    no_more = λ other after b. s.stops.no_more (anywhere other) after b;
+  };
   one = λ x after b. s.one (anywhere x) after b;
 }
 
-pub name_wrong : (text : Text) (r : Result Tile NameError) → IsReadAs spelled_tile r (name_at None text text) → IfErr r (λ e. FirstWrong name_fields text e.place)
+pub name_wrong : (text : Text) (r : Result Tile NameError) → IsReadAs spelled_tile r (name_at None text text)
+    → IfErr r (λ e. FirstWrong name_fields text e.place)
 name_wrong text (Ok t) e = tt
 name_wrong text (Err wrong) e =
     let s = name_says None tt text text (Err wrong) e in
@@ -67,14 +80,17 @@ name_wrong text (Err wrong) e =
     record {
       rest = s.0;
       stops = stops;
-      place_is = ap (λ (k : ℕ). k + length s.0) (sym place) ∙ begins_at text s.0 (take stops.count (name_fields stops.value)) stops.begins.parts;
+      place_is = ap (λ (k : ℕ). k + length s.0) (sym place)
+          ∙ begins_at text s.0 (take stops.count (name_fields stops.value)) stops.begins.parts;
     }
 
 -- ---- the first wrong field is one, and of a name none is wrong
 
 pub are_name_fields : (t : Tile) → AreFields (name_fields t)
-are_name_fields t =
-    ((λ rest. refl), ((λ rest. refl), ((λ rest. refl), ((λ rest. refl), ((λ rest. refl), ((λ rest. refl), ((λ rest. refl), tt)))))))
+are_name_fields t = (
+  (λ rest. refl),
+  ((λ rest. refl), ((λ rest. refl), ((λ rest. refl), ((λ rest. refl), ((λ rest. refl), ((λ rest. refl), tt)))))),
+)
 
 pub one_wrong_in_name : OneWrongPlaceOfNames
 one_wrong_in_name text p q a b = by (name_at None text text) refl

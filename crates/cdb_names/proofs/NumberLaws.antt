@@ -28,7 +28,8 @@ pub rest_begins : (text : Text) → begins_with_digit (drop (digits_len text) te
 rest_begins [] = refl
 rest_begins (c ∷ text) = by (rest_begins text) (is_ascii_digit c) refl
   where
-    by : begins_with_digit (drop (digits_len text) text) ≡ false → (b : Bool) → is_ascii_digit c ≡ b → begins_with_digit (drop (cond b (1 + digits_len text) 0) (c ∷ text)) ≡ false
+    by : begins_with_digit (drop (digits_len text) text) ≡ false → (b : Bool) → is_ascii_digit c ≡ b
+        → begins_with_digit (drop (cond b (1 + digits_len text) 0) (c ∷ text)) ≡ false
     by rest true e = let k : 1 + digits_len text ≡ suc (digits_len text) = omega arith in rw k rest
     by rest false e = e
 
@@ -37,37 +38,53 @@ pub all_front : (text : Text) → all_ascii_digits (take (digits_len text) text)
 all_front [] = refl
 all_front (c ∷ text) = by (all_front text) (is_ascii_digit c) refl
   where
-    by : all_ascii_digits (take (digits_len text) text) ≡ true → (b : Bool) → is_ascii_digit c ≡ b → all_ascii_digits (take (cond b (1 + digits_len text) 0) (c ∷ text)) ≡ true
+    by : all_ascii_digits (take (digits_len text) text) ≡ true → (b : Bool) → is_ascii_digit c ≡ b
+        → all_ascii_digits (take (cond b (1 + digits_len text) 0) (c ∷ text)) ≡ true
     by rest true e = let k : 1 + digits_len text ≡ suc (digits_len text) = omega arith in rw (k, e) rest
     by rest false e = refl
 
 -- the tests of number_of, and its value
-pub number_value : (limit : ℕ) (ds : Text) (n : ℕ) → all_ascii_digits ds ≡ true → limit ≤ 2 ^ 32 → bounded_number limit ds ≡ Some n → (ds ≡ decimal n) × (n < limit)
+pub number_value : (limit : ℕ) (ds : Text) (n : ℕ) → all_ascii_digits ds ≡ true → limit ≤ 2 ^ 32
+    → bounded_number limit ds ≡ Some n → (ds ≡ decimal n) × (n < limit)
 number_value limit ds n digits small e =
-    let g = some_if (nat_lt 0 (length ds) && (((length ds == 1) || not (slice_index ds 0 == 48)) && nat_lt (digits_value 10 ds) limit)) (digits_value 10 ds) n e in
-    let t = both (nat_lt 0 (length ds)) (((length ds == 1) || not (slice_index ds 0 == 48)) && nat_lt (digits_value 10 ds) limit) g.0 in
+    let g = some_if
+    (nat_lt 0 (length ds)
+    && (((length ds == 1) || not (slice_index ds 0 == 48)) && nat_lt (digits_value 10 ds) limit))
+    (digits_value 10 ds) n e in
+    let t = both (nat_lt 0 (length ds))
+    (((length ds == 1) || not (slice_index ds 0 == 48)) && nat_lt (digits_value 10 ds) limit) g.0 in
     let u = both ((length ds == 1) || not (slice_index ds 0 == 48)) (nat_lt (digits_value 10 ds) limit) t.1 in
     let some : 0 < length ds = ltb-true 0 (length ds) t.0 in
     let lt : digits_value 10 ds < limit = ltb-true (digits_value 10 ds) limit u.1 in
-    let d : decimal (digits_value 10 ds) ≡ ds = decimal-digits_value own ds digits some (λ z. one_digit (length ds) (slice_index ds 0) z u.0) (omega arith) in
+    let d : decimal (digits_value 10 ds) ≡ ds = decimal-digits_value own ds digits some
+    (λ z. one_digit (length ds) (slice_index ds 0) z u.0) (omega arith) in
     (sym d ∙ ap decimal g.1, subst (λ (k : ℕ). k < limit) g.1 lt)
   where
     one_digit : (k first : ℕ) → first ≡ 48 → ((k == 1) || not (first == 48)) ≡ true → k ≡ 1
     one_digit k first z h = grind (arith, nat_tests)
 
 -- a number that was read, spelled again
-pub number_takes : (limit : ℕ) (text : Text) (n : ℕ) (rest : Text) → limit ≤ 2 ^ 32 → bounded_number_at limit text ≡ Some (n, rest) → (n < limit) × (text ≡ decimal n ++ rest) × (begins_with_digit rest ≡ false)
+pub number_takes : (limit : ℕ) (text : Text) (n : ℕ) (rest : Text) → limit ≤ 2 ^ 32 → bounded_number_at limit text
+    ≡ Some (n, rest) → (n < limit) × (text ≡ decimal n ++ rest) × (begins_with_digit rest ≡ false)
 unfolding bounded_number_at
 number_takes limit text n rest small e =
-    let m = map_some (bounded_number limit (take (digits_len text) text)) (λ n. (n, drop (digits_len text) text)) (n, rest) e in
+    let m = map_some (bounded_number limit (take (digits_len text) text))
+    (λ n. (n, drop (digits_len text) text)) (n, rest) e in
     let p = pair_is m.0 n (drop (digits_len text) text) rest m.2 in
     let v = number_value limit (take (digits_len text) text) m.0 (all_front text) small m.1 in
     let split = sym (take-append-drop (digits_len text) text) in
-    let whole : text ≡ decimal m.0 ++ drop (digits_len text) text = split ∙ ap (λ (r : Text). r ++ drop (digits_len text) text) v.0 in
-    (subst (λ (k : ℕ). k < limit) p.0 v.1, subst (λ (k : ℕ). text ≡ decimal k ++ rest) p.0 (subst (λ (r : Text). text ≡ decimal m.0 ++ r) p.1 whole), subst (λ (r : Text). begins_with_digit r ≡ false) p.1 (rest_begins text))
+    let whole : text ≡ decimal m.0 ++ drop (digits_len text) text = split
+    ∙ ap (λ (r : Text). r ++ drop (digits_len text) text) v.0 in (
+      subst (λ (k : ℕ). k < limit) p.0 v.1,
+      subst (λ (k : ℕ). text ≡ decimal k ++ rest)
+          p.0 (subst (λ (r : Text). text ≡ decimal m.0 ++ r) p.1 whole),
+      subst (λ (r : Text). begins_with_digit r ≡ false)
+          p.1 (rest_begins text),
+    )
 
 -- a number below ten millions has at most seven digits
-pub near_value : (limit : ℕ) (text : Text) (n : ℕ) → limit ≤ 10 ^ 7 → bounded_number limit (take (digits_len text) text) ≡ Some n → length text ≤ length (drop (digits_len text) text) + 7
+pub near_value : (limit : ℕ) (text : Text) (n : ℕ) → limit ≤ 10 ^ 7 → bounded_number limit (take (digits_len text) text)
+    ≡ Some n → length text ≤ length (drop (digits_len text) text) + 7
 near_value limit text n small e =
     let ds = take (digits_len text) text in
     let rest = drop (digits_len text) text in
@@ -76,7 +93,8 @@ near_value limit text n small e =
     omega (arith, k, ap length v.0, ap length (take-append-drop (digits_len text) text), length-append ds rest)
 
 -- digits, and then no digit
-pub digits_len-append : (ds rest : Text) → all_ascii_digits ds ≡ true → begins_with_digit rest ≡ false → digits_len (ds ++ rest) ≡ length ds
+pub digits_len-append : (ds rest : Text) → all_ascii_digits ds ≡ true → begins_with_digit rest ≡ false
+    → digits_len (ds ++ rest) ≡ length ds
 digits_len-append [] [] h e = refl
 digits_len-append [] (c ∷ rest) h e = rw e refl
 digits_len-append (d ∷ ds) rest h e =
@@ -92,18 +110,25 @@ number_again_value limit n lt small =
   where
     no_zero : (n : ℕ) → n < 2 ^ 64 → ((length (decimal n) == 1) || not (slice_index (decimal n) 0 == 48)) ≡ true
     no_zero zero h = rw (decimal_digit 0 (omega arith)) refl
-    no_zero (suc n) h = let f : 48 < slice_index (decimal (suc n)) 0 = first_decimal (suc n) (omega arith) h in by (length (decimal (suc n))) (slice_index (decimal (suc n)) 0) f
+    no_zero (suc n) h = let f : 48 < slice_index (decimal (suc n)) 0 = first_decimal (suc n) (omega arith) h in
+        by (length (decimal (suc n))) (slice_index (decimal (suc n)) 0) f
       where
         by : (k first : ℕ) → 48 < first → ((k == 1) || not (first == 48)) ≡ true
         by k first h = grind (arith, nat_tests)
 
 -- a spelled number, read again
-pub number_again : (limit n : ℕ) (rest : Text) → n < limit → limit ≤ 2 ^ 32 → begins_with_digit rest ≡ false → bounded_number_at limit (decimal n ++ rest) ≡ Some (n, rest)
+pub number_again : (limit n : ℕ) (rest : Text) → n < limit → limit ≤ 2 ^ 32 → begins_with_digit rest ≡ false
+    → bounded_number_at limit (decimal n ++ rest) ≡ Some (n, rest)
 unfolding bounded_number_at
 number_again limit n rest lt small e =
     let ds : all_ascii_digits (decimal n) ≡ true = digits_decimal own n (omega arith) in
     let k = digits_len-append (decimal n) rest ds e in
-    rw (k, take_at (decimal n) rest (length (decimal n)) refl, drop_at (decimal n) rest (length (decimal n)) refl, number_again_value limit n lt small) refl
+    rw (
+      k,
+      take_at (decimal n) rest (length (decimal n)) refl,
+      drop_at (decimal n) rest (length (decimal n)) refl,
+      number_again_value limit n lt small,
+    ) refl
 
 -- a row and a column of a tile have at most seven digits
 across_few : (z : ℤ) → z ≤ℤ pos 23 → 2 ^ (24 - height_of z) ≤ 2 ^ 23

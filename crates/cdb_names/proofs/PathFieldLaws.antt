@@ -20,7 +20,8 @@ use Rattle.cdb_names.proofs.FolderLaws.{some_family, some_level}
 
 -- ---- a slash
 
-pub slashed_takes : {X : Type 0} (o : Option (X × Text)) (x : X) (rest : Text) → slashed o ≡ Some (x, rest) → o ≡ Some (x, 47 ∷ rest)
+pub slashed_takes : {X : Type 0} (o : Option (X × Text)) (x : X) (rest : Text) → slashed o ≡ Some (x, rest)
+    → o ≡ Some (x, 47 ∷ rest)
 slashed_takes None x rest e = absurd cc
 slashed_takes {X} (Some p) x rest e =
     let m = map_some (after (codes "/") p.1) (λ rest. (p.0, rest)) (x, rest) e in
@@ -30,7 +31,8 @@ slashed_takes {X} (Some p) x rest e =
     let b : ◌≡◌ {A = X × Text} (x, p.1) (x, 47 ∷ rest) = ap (λ (r : Text). (x, r)) t in
     ap Some (a ∙ b)
 
-pub slashed_again : {X : Type 0} (o : Option (X × Text)) (x : X) (rest : Text) → o ≡ Some (x, 47 ∷ rest) → slashed o ≡ Some (x, rest)
+pub slashed_again : {X : Type 0} (o : Option (X × Text)) (x : X) (rest : Text) → o ≡ Some (x, 47 ∷ rest)
+    → slashed o ≡ Some (x, rest)
 slashed_again o x rest e = ap slashed e
 
 -- a part with its slash, and then a rest
@@ -52,8 +54,12 @@ four_takes text n rest e =
     let is : a.0.0 * 100 + b.0.0 ≡ n = p.0 in
     let high_is : a.0.0 ≡ n / 100 = omega arith in
     let low_is : b.0.0 ≡ n % 100 = omega arith in
-    let whole : text ≡ two a.0.0 ++ (two b.0.0 ++ b.0.1) = s.0 ∙ ap (λ (r : Text). two a.0.0 ++ r) t.0 in
-    (whole ∙ ap (λ (k : ℕ). two k ++ (two b.0.0 ++ b.0.1)) high_is ∙ ap (λ (k : ℕ). two (n / 100) ++ (two k ++ b.0.1)) low_is ∙ ap (λ (r : Text). two (n / 100) ++ (two (n % 100) ++ r)) p.1, omega arith)
+    let whole : text ≡ two a.0.0 ++ (two b.0.0 ++ b.0.1) = s.0 ∙ ap (λ (r : Text). two a.0.0 ++ r) t.0 in (
+      whole ∙ ap (λ (k : ℕ). two k ++ (two b.0.0 ++ b.0.1)) high_is
+          ∙ ap (λ (k : ℕ). two (n / 100) ++ (two k ++ b.0.1)) low_is
+          ∙ ap (λ (r : Text). two (n / 100) ++ (two (n % 100) ++ r)) p.1,
+      omega arith,
+    )
 
 four_again : (n : ℕ) (rest : Text) → n < 10000 → four_at (four n ++ rest) ≡ Some (n, rest)
 unfolding four_at
@@ -61,7 +67,8 @@ four_again n rest h =
     let e : n / 100 * 100 + n % 100 ≡ n = omega arith in
     rw (two_again (n / 100) (omega arith), two_again (n % 100) (omega arith)) (ap (λ (k : ℕ). Some (k, rest)) e)
 
-version_takes : (text : Text) (v : ℕ) (rest : Text) → version_at text ≡ Some (v, rest) → (text ≡ version_folder v ++ rest) × (1 ≤ v) × (v ≤ 4096)
+version_takes : (text : Text) (v : ℕ) (rest : Text) → version_at text ≡ Some (v, rest)
+    → (text ≡ version_folder v ++ rest) × (1 ≤ v) × (v ≤ 4096)
 unfolding version_at
 version_takes text v rest e =
     let a = then_some (after (codes "V") text) _ (v, rest) e in
@@ -69,7 +76,8 @@ version_takes text v rest e =
     let c = then_some (four_at b.0.1) _ (v, rest) b.2 in
     let d = then_some (version_of b.0.0 c.0.0) _ (v, rest) c.2 in
     let p = pair_is d.0 v c.0.1 rest (some_is _ _ d.2) in
-    let g = some_if (nat_lt 0 (b.0.0 * 10000 + c.0.0) && nat_le (b.0.0 * 10000 + c.0.0) 4096) (b.0.0 * 10000 + c.0.0) d.0 d.1 in
+    let g = some_if (nat_lt 0 (b.0.0 * 10000 + c.0.0) && nat_le (b.0.0 * 10000 + c.0.0) 4096)
+    (b.0.0 * 10000 + c.0.0) d.0 d.1 in
     let u = both (nat_lt 0 (b.0.0 * 10000 + c.0.0)) (nat_le (b.0.0 * 10000 + c.0.0) 4096) g.0 in
     let some : 0 < b.0.0 * 10000 + c.0.0 = ltb-true 0 (b.0.0 * 10000 + c.0.0) u.0 in
     let most : b.0.0 * 10000 + c.0.0 ≤ 4096 = leb-true (b.0.0 * 10000 + c.0.0) 4096 u.1 in
@@ -80,8 +88,14 @@ version_takes text v rest e =
     let is : b.0.0 * 10000 + c.0.0 ≡ v = g.1 ∙ p.0 in
     let high_is : b.0.0 ≡ v / 10000 = omega arith in
     let low_is : c.0.0 ≡ v % 10000 = omega arith in
-    let whole : text ≡ 86 ∷ (four b.0.0 ++ (four c.0.0 ++ c.0.1)) = after_takes (codes "V") text a.0 a.1 ∙ ap (λ (r : Text). 86 ∷ r) (s.0 ∙ ap (λ (r : Text). four b.0.0 ++ r) t.0) in
-    (whole ∙ ap (λ (k : ℕ). 86 ∷ (four k ++ (four c.0.0 ++ c.0.1))) high_is ∙ ap (λ (k : ℕ). 86 ∷ (four (v / 10000) ++ (four k ++ c.0.1))) low_is ∙ ap (λ (r : Text). 86 ∷ (four (v / 10000) ++ (four (v % 10000) ++ r))) p.1, omega arith, omega arith)
+    let whole : text ≡ 86 ∷ (four b.0.0 ++ (four c.0.0 ++ c.0.1)) = after_takes (codes "V") text a.0 a.1
+    ∙ ap (λ (r : Text). 86 ∷ r) (s.0 ∙ ap (λ (r : Text). four b.0.0 ++ r) t.0) in (
+      whole ∙ ap (λ (k : ℕ). 86 ∷ (four k ++ (four c.0.0 ++ c.0.1))) high_is
+          ∙ ap (λ (k : ℕ). 86 ∷ (four (v / 10000) ++ (four k ++ c.0.1))) low_is
+          ∙ ap (λ (r : Text). 86 ∷ (four (v / 10000) ++ (four (v % 10000) ++ r))) p.1,
+      omega arith,
+      omega arith,
+    )
 
 version_value_again : (v : ℕ) → 1 ≤ v → v ≤ 4096 → version_of (v / 10000) (v % 10000) ≡ Some v
 version_value_again v some most =
@@ -93,39 +107,50 @@ version_value_again v some most =
 version_again : (v : ℕ) (rest : Text) → 1 ≤ v → v ≤ 4096 → version_at (version_folder v ++ rest) ≡ Some (v, rest)
 unfolding version_at
 version_again v rest some most =
-    rw (four_again (v / 10000) (four (v % 10000) ++ rest) (omega arith), four_again (v % 10000) rest (omega arith), version_value_again v some most) refl
+    rw (
+      four_again (v / 10000) (four (v % 10000) ++ rest) (omega arith),
+      four_again (v % 10000) rest (omega arith),
+      version_value_again v some most,
+    ) refl
 
-pub version_folder_takes : (text : Text) (v : ℕ) (rest : Text) → version_folder_at text ≡ Some (v, rest) → (text ≡ (version_folder v ++ 47 ∷ []) ++ rest) × (1 ≤ v) × (v ≤ 4096)
+pub version_folder_takes : (text : Text) (v : ℕ) (rest : Text) → version_folder_at text ≡ Some (v, rest)
+    → (text ≡ (version_folder v ++ 47 ∷ []) ++ rest) × (1 ≤ v) × (v ≤ 4096)
 unfolding version_folder_at
 version_folder_takes text v rest e =
     let t = version_takes text v (47 ∷ rest) (slashed_takes (version_at text) v rest e) in
     (t.0 ∙ sym (part_is (version_folder v) rest), t.1, t.2)
 
-pub version_folder_again : (v : ℕ) (rest : Text) → 1 ≤ v → v ≤ 4096 → version_folder_at ((version_folder v ++ 47 ∷ []) ++ rest) ≡ Some (v, rest)
+pub version_folder_again : (v : ℕ) (rest : Text) → 1 ≤ v → v ≤ 4096
+    → version_folder_at ((version_folder v ++ 47 ∷ []) ++ rest) ≡ Some (v, rest)
 unfolding version_folder_at
 version_folder_again v rest some most = slashed_again _ v rest (version_again v (47 ∷ rest) some most)
 
 -- ---- latitude and longitude
 
-pub lat_folder_takes : (text : Text) (l : ℤ) (rest : Text) → lat_folder_at text ≡ Some (l, rest) → IsLat l × (text ≡ (lat_text l ++ 47 ∷ []) ++ rest)
+pub lat_folder_takes : (text : Text) (l : ℤ) (rest : Text) → lat_folder_at text ≡ Some (l, rest) → IsLat l
+    × (text ≡ (lat_text l ++ 47 ∷ []) ++ rest)
 unfolding lat_folder_at
 lat_folder_takes text l rest e =
     let t = lat_takes text l (47 ∷ rest) (slashed_takes (lat_at text) l rest e) in
     (t.0, t.1 ∙ sym (part_is (lat_text l) rest))
 
-pub lat_folder_again : (l : ℤ) (rest : Text) → IsLat l → lat_folder_at ((lat_text l ++ 47 ∷ []) ++ rest) ≡ Some (l, rest)
+pub lat_folder_again : (l : ℤ) (rest : Text) → IsLat l → lat_folder_at ((lat_text l ++ 47 ∷ []) ++ rest)
+    ≡ Some (l, rest)
 unfolding lat_folder_at
 lat_folder_again l rest h = slashed_again _ l rest (ap lat_at (part_is (lat_text l) rest) ∙ lat_again l (47 ∷ rest) h)
 
-pub lon_folder_takes : (lat : ℤ) (text : Text) (l : ℤ) (rest : Text) → lon_folder_at lat text ≡ Some (l, rest) → IsLon lat l × (text ≡ (lon_text l ++ 47 ∷ []) ++ rest)
+pub lon_folder_takes : (lat : ℤ) (text : Text) (l : ℤ) (rest : Text) → lon_folder_at lat text ≡ Some (l, rest)
+    → IsLon lat l × (text ≡ (lon_text l ++ 47 ∷ []) ++ rest)
 unfolding lon_folder_at
 lon_folder_takes lat text l rest e =
     let t = lon_takes lat text l (47 ∷ rest) (slashed_takes (lon_at lat text) l rest e) in
     (t.0, t.1 ∙ sym (part_is (lon_text l) rest))
 
-pub lon_folder_again : (lat l : ℤ) (rest : Text) → IsLon lat l → lon_folder_at lat ((lon_text l ++ 47 ∷ []) ++ rest) ≡ Some (l, rest)
+pub lon_folder_again : (lat l : ℤ) (rest : Text) → IsLon lat l → lon_folder_at lat ((lon_text l ++ 47 ∷ []) ++ rest)
+    ≡ Some (l, rest)
 unfolding lon_folder_at
-lon_folder_again lat l rest h = slashed_again _ l rest (ap (lon_at lat) (part_is (lon_text l) rest) ∙ lon_again lat l (47 ∷ rest) h)
+lon_folder_again lat l rest h =
+    slashed_again _ l rest (ap (lon_at lat) (part_is (lon_text l) rest) ∙ lon_again lat l (47 ∷ rest) h)
 
 -- ---- dataset
 
@@ -135,7 +160,8 @@ dataset_part Elevation = codes "001_Elevation/"
 dataset_part MinMaxElevation = codes "002_MinMaxElevation/"
 dataset_part RmTexture = codes "005_RMTexture/"
 
-pub dataset_folder_takes : (text : Text) (d : DatasetFolder) (rest : Text) → dataset_folder_at text ≡ Some (d, rest) → text ≡ (dataset_folder (some_family d) ++ 47 ∷ []) ++ rest
+pub dataset_folder_takes : (text : Text) (d : DatasetFolder) (rest : Text) → dataset_folder_at text ≡ Some (d, rest)
+    → text ≡ (dataset_folder (some_family d) ++ 47 ∷ []) ++ rest
 unfolding dataset_folder_at
 dataset_folder_takes text d rest e = part ∙ ap (λ (f : Text). f ++ rest) (spelled d)
   where
@@ -144,23 +170,34 @@ dataset_folder_takes text d rest e = part ∙ ap (λ (f : Text). f ++ rest) (spe
     spelled MinMaxElevation = refl
     spelled RmTexture = refl
 
-    found : (k : DatasetFolder) (n : ℕ) → n ≡ length (dataset_part k) → starts_with nat_eq text (dataset_part k) ≡ true → ◌≡◌ {A = Option (DatasetFolder × Text)} (Some (k, drop n text)) (Some (d, rest)) → text ≡ dataset_part d ++ rest
+    found : (k : DatasetFolder) (n : ℕ) → n ≡ length (dataset_part k) → starts_with nat_eq text (dataset_part k) ≡ true
+        → ◌≡◌ {A = Option (DatasetFolder × Text)} (Some (k, drop n text)) (Some (d, rest))
+        → text ≡ dataset_part d ++ rest
     found k n len s i =
         let p = pair_is k d (drop n text) rest (some_is _ _ i) in
         let t = starts_takes (dataset_part k) text s in
-        t ∙ ap (λ (m : ℕ). dataset_part k ++ drop m text) (sym len) ∙ ap (λ (r : Text). dataset_part k ++ r) p.1 ∙ ap (λ (f : DatasetFolder). dataset_part f ++ rest) p.0
+        t ∙ ap (λ (m : ℕ). dataset_part k ++ drop m text) (sym len) ∙ ap (λ (r : Text). dataset_part k ++ r) p.1
+        ∙ ap (λ (f : DatasetFolder). dataset_part f ++ rest) p.0
 
-    by : (a b c : Bool) → starts_with nat_eq text (codes "001_Elevation/") ≡ a → starts_with nat_eq text (codes "002_MinMaxElevation/") ≡ b → starts_with nat_eq text (codes "005_RMTexture/") ≡ c
-        → ◌≡◌ {A = Option (DatasetFolder × Text)} (cond a (Some (Elevation, drop 14 text)) (cond b (Some (MinMaxElevation, drop 20 text)) (cond c (Some (RmTexture, drop 14 text)) None))) (Some (d, rest)) → text ≡ dataset_part d ++ rest
+    by : (a b c : Bool) → starts_with nat_eq text (codes "001_Elevation/") ≡ a
+        → starts_with nat_eq text (codes "002_MinMaxElevation/") ≡ b
+        → starts_with nat_eq text (codes "005_RMTexture/") ≡ c
+        → ◌≡◌ {A = Option (DatasetFolder × Text)}
+        (cond a (Some (Elevation, drop 14 text))
+        (cond b (Some (MinMaxElevation, drop 20 text)) (cond c (Some (RmTexture, drop 14 text)) None)))
+        (Some (d, rest)) → text ≡ dataset_part d ++ rest
     by true b c p q r i = found Elevation 14 refl p i
     by false true c p q r i = found MinMaxElevation 20 refl q i
     by false false true p q r i = found RmTexture 14 refl r i
     by false false false p q r i = absurd cc
 
     part : text ≡ dataset_part d ++ rest
-    part = by (starts_with nat_eq text (codes "001_Elevation/")) (starts_with nat_eq text (codes "002_MinMaxElevation/")) (starts_with nat_eq text (codes "005_RMTexture/")) refl refl refl e
+    part = by (starts_with nat_eq text (codes "001_Elevation/"))
+        (starts_with nat_eq text (codes "002_MinMaxElevation/")) (starts_with nat_eq text (codes "005_RMTexture/"))
+        refl refl refl e
 
-pub dataset_folder_again : (f : Family) (rest : Text) → dataset_folder_at ((dataset_folder f ++ 47 ∷ []) ++ rest) ≡ Some (dataset_folder_of f, rest)
+pub dataset_folder_again : (f : Family) (rest : Text) → dataset_folder_at ((dataset_folder f ++ 47 ∷ []) ++ rest)
+    ≡ Some (dataset_folder_of f, rest)
 unfolding dataset_folder_at
 dataset_folder_again Elev rest = refl
 dataset_folder_again Low rest = refl
@@ -173,7 +210,8 @@ dataset_folder_again Mat rest = refl
 abbrev pub level_for_folder : ℤ → ℤ
 level_for_folder l = some_level (level_folder_of l)
 
-fine_folder_takes : (text : Text) (l : ℤ) (rest : Text) → fine_folder_at text ≡ Some (l, rest) → IsLevel l × (text ≡ level_folder l ++ rest) × (level_for_folder l ≡ l)
+fine_folder_takes : (text : Text) (l : ℤ) (rest : Text) → fine_folder_at text ≡ Some (l, rest) → IsLevel l
+    × (text ≡ level_folder l ++ rest) × (level_for_folder l ≡ l)
 unfolding fine_folder_at
 fine_folder_takes text l rest e =
     let a = then_some (after (codes "L") text) _ (l, rest) e in
@@ -184,27 +222,39 @@ fine_folder_takes text l rest e =
     let lt : b.0.0 < 24 = ltb-true b.0.0 24 g.0 in
     let is : pos b.0.0 ≡ l = g.1 ∙ p.0 in
     let t = two_at_takes a.0 b.0.0 b.0.1 b.1 in
-    let whole : text ≡ 76 ∷ (two b.0.0 ++ b.0.1) = after_takes (codes "L") text a.0 a.1 ∙ ap (λ (r : Text). 76 ∷ r) t.0 in
-    let spelled : text ≡ level_folder (pos b.0.0) ++ rest = whole ∙ ap (λ (r : Text). level_folder (pos b.0.0) ++ r) p.1 in
-    let facts : IsLevel (pos b.0.0) = (omega (arith, ints), omega (arith, ints)) in
-    (subst IsLevel is facts, subst (λ (z : ℤ). text ≡ level_folder z ++ rest) is spelled, subst (λ (z : ℤ). level_for_folder z ≡ z) is refl)
+    let whole : text ≡ 76 ∷ (two b.0.0 ++ b.0.1) = after_takes (codes "L") text a.0 a.1
+    ∙ ap (λ (r : Text). 76 ∷ r) t.0 in
+    let spelled : text ≡ level_folder (pos b.0.0) ++ rest = whole
+    ∙ ap (λ (r : Text). level_folder (pos b.0.0) ++ r) p.1 in
+    let facts : IsLevel (pos b.0.0) = (omega (arith, ints), omega (arith, ints)) in (
+      subst IsLevel is facts,
+      subst (λ (z : ℤ). text ≡ level_folder z ++ rest) is spelled,
+      subst (λ (z : ℤ). level_for_folder z ≡ z) is refl,
+    )
 
-pub level_folder_takes : (text : Text) (l : ℤ) (rest : Text) → level_folder_at text ≡ Some (l, rest) → IsLevel l × (text ≡ (level_folder l ++ 47 ∷ []) ++ rest) × (level_for_folder l ≡ l)
+pub level_folder_takes : (text : Text) (l : ℤ) (rest : Text) → level_folder_at text ≡ Some (l, rest) → IsLevel l
+    × (text ≡ (level_folder l ++ 47 ∷ []) ++ rest) × (level_for_folder l ≡ l)
 unfolding level_folder_at
 level_folder_takes text l rest e =
-    elim (chosen (starts_with nat_eq text (codes "LC/")) (Some (negsuc 0, drop 3 text)) (slashed (fine_folder_at text)) (Some (l, rest)) e) [
+    elim (chosen (starts_with nat_eq text (codes "LC/")) (Some (negsuc 0, drop 3 text)) (slashed (fine_folder_at text))
+    (Some (l, rest)) e) [
       | inl h ↦
           let p = pair_is (negsuc 0) l (drop 3 text) rest (some_is _ _ h.1) in
           let t : text ≡ codes "LC/" ++ drop 3 text = starts_takes (codes "LC/") text h.0 in
-          let spelled : text ≡ (level_folder (negsuc 0) ++ 47 ∷ []) ++ rest = t ∙ ap (λ (r : Text). codes "LC/" ++ r) p.1 in
-          let facts : IsLevel (negsuc 0) = (omega (arith, ints), omega (arith, ints)) in
-          (subst IsLevel p.0 facts, subst (λ (z : ℤ). text ≡ (level_folder z ++ 47 ∷ []) ++ rest) p.0 spelled, subst (λ (z : ℤ). level_for_folder z ≡ z) p.0 refl)
+          let spelled : text ≡ (level_folder (negsuc 0) ++ 47 ∷ []) ++ rest = t
+          ∙ ap (λ (r : Text). codes "LC/" ++ r) p.1 in
+          let facts : IsLevel (negsuc 0) = (omega (arith, ints), omega (arith, ints)) in (
+            subst IsLevel p.0 facts,
+            subst (λ (z : ℤ). text ≡ (level_folder z ++ 47 ∷ []) ++ rest) p.0 spelled,
+            subst (λ (z : ℤ). level_for_folder z ≡ z) p.0 refl,
+          )
       | inr h ↦
           let t = fine_folder_takes text l (47 ∷ rest) (slashed_takes (fine_folder_at text) l rest h.1) in
           (t.0, t.1 ∙ sym (part_is (level_folder l) rest), t.2)
     ]
 
-pub level_folder_again : (l : ℤ) (rest : Text) → IsLevel l → level_folder_at ((level_folder l ++ 47 ∷ []) ++ rest) ≡ Some (level_for_folder l, rest)
+pub level_folder_again : (l : ℤ) (rest : Text) → IsLevel l → level_folder_at ((level_folder l ++ 47 ∷ []) ++ rest)
+    ≡ Some (level_for_folder l, rest)
 unfolding level_folder_at fine_folder_at
 level_folder_again (pos n) rest h =
     let lt : n < 24 = omega (arith, ints, h.1) in
@@ -214,12 +264,17 @@ level_folder_again (negsuc n) rest h = refl
 
 -- ---- row
 
-pub up_folder_takes : (limit : ℕ) (text : Text) (n : ℕ) (rest : Text) → limit ≤ 2 ^ 32 → up_folder_at limit text ≡ Some (n, rest) → (n < limit) × (text ≡ ((85 ∷ decimal n) ++ 47 ∷ []) ++ rest)
+pub up_folder_takes : (limit : ℕ) (text : Text) (n : ℕ) (rest : Text) → limit ≤ 2 ^ 32 → up_folder_at limit text
+    ≡ Some (n, rest) → (n < limit) × (text ≡ ((85 ∷ decimal n) ++ 47 ∷ []) ++ rest)
 unfolding up_folder_at
 up_folder_takes limit text n rest small e =
-    let t = numbered_takes (codes "U") limit text n (47 ∷ rest) small (slashed_takes (numbered_at (codes "U") limit text) n rest e) in
+    let t = numbered_takes (codes "U") limit text n (47 ∷ rest) small
+    (slashed_takes (numbered_at (codes "U") limit text) n rest e) in
     (t.0, t.1 ∙ sym (part_is (85 ∷ decimal n) rest))
 
-pub up_folder_again : (limit n : ℕ) (rest : Text) → n < limit → limit ≤ 2 ^ 32 → up_folder_at limit (((85 ∷ decimal n) ++ 47 ∷ []) ++ rest) ≡ Some (n, rest)
+pub up_folder_again : (limit n : ℕ) (rest : Text) → n < limit → limit ≤ 2 ^ 32
+    → up_folder_at limit (((85 ∷ decimal n) ++ 47 ∷ []) ++ rest) ≡ Some (n, rest)
 unfolding up_folder_at
-up_folder_again limit n rest lt small = slashed_again _ n rest (ap (numbered_at (codes "U") limit) (part_is (85 ∷ decimal n) rest) ∙ numbered_again (codes "U") limit n (47 ∷ rest) lt small refl)
+up_folder_again limit n rest lt small =
+    slashed_again _ n rest (ap (numbered_at (codes "U") limit) (part_is (85 ∷ decimal n) rest)
+    ∙ numbered_again (codes "U") limit n (47 ∷ rest) lt small refl)

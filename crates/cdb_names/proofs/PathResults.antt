@@ -33,13 +33,21 @@ use Rattle.cdb_names.proofs.SameTile.{same_tile}
 
 -- what the folders of a tile say of it
 abbrev folder_of : Tile → Folder
-folder_of t = record { lat = t.cell.lat; lon = t.cell.lon; dataset = dataset_folder_of t.family; level = level_folder_of (level_for_folder t.level.number); up = t.up }
+folder_of t = record {
+  lat = t.cell.lat;
+  lon = t.cell.lon;
+  dataset = dataset_folder_of t.family;
+  level = level_folder_of (level_for_folder t.level.number);
+  up = t.up;
+}
 
 -- the folder that was read
 abbrev folder_with : ℤ → ℤ → DatasetFolder → ℤ → ℕ → Folder
-folder_with lat lon dataset level up = record { lat = lat; lon = lon; dataset = dataset; level = level_folder_of level; up = up }
+folder_with lat lon dataset level up =
+    record { lat = lat; lon = lon; dataset = dataset; level = level_folder_of level; up = up }
 
-folder_is : (version : ℕ) (lat lon : ℤ) (dataset : DatasetFolder) (level : ℤ) (up : ℕ) (v : VersionTile) → Shares7 version lat lon dataset level up v → folder_of v.tile ≡ folder_with lat lon dataset level up
+folder_is : (version : ℕ) (lat lon : ℤ) (dataset : DatasetFolder) (level : ℤ) (up : ℕ) (v : VersionTile)
+    → Shares7 version lat lon dataset level up v → folder_of v.tile ≡ folder_with lat lon dataset level up
 folder_is version lat lon dataset level up v s = rw (s.1, s.2, s.3, s.4, s.5) refl
 
 some_level_again : (l : LevelFolder) → level_folder_of (some_level l) ≡ l
@@ -78,13 +86,15 @@ in_folder t f e = record {
   tile = t;
   lat = subst (λ (g : Folder). has_lat (Some g) t.cell.lat ≡ true) e ((signed_Decides t.cell.lat t.cell.lat).1 refl);
   lon = subst (λ (g : Folder). has_lon (Some g) t.cell.lon ≡ true) e ((signed_Decides t.cell.lon t.cell.lon).1 refl);
-  dataset = subst (λ (g : Folder). has_dataset (Some g) t.family ≡ true) e (dataset_itself (dataset_folder_of t.family));
+  dataset = subst (λ (g : Folder). has_dataset (Some g) t.family ≡ true) e
+      (dataset_itself (dataset_folder_of t.family));
   level = subst (λ (g : Folder). has_level (Some g) t.level.number ≡ true) e (level_of_folder t.level.number);
   up = subst (λ (g : Folder). has_up (Some g) t.up ≡ true) e (eq-eqb t.up t.up refl);
 }
   where
     level_of_folder : (l : ℤ) → same_level (level_folder_of (level_for_folder l)) (level_folder_of l) ≡ true
-    level_of_folder l = ap (λ (k : LevelFolder). same_level k (level_folder_of l)) (some_level_again (level_folder_of l)) ∙ level_itself (level_folder_of l)
+    level_of_folder l = ap (λ (k : LevelFolder). same_level k (level_folder_of l))
+        (some_level_again (level_folder_of l)) ∙ level_itself (level_folder_of l)
 
 -- the folder of a tile has a tile
 is_folder : (t : Tile) → IsFolder (folder_of t)
@@ -122,19 +132,27 @@ level_named : (l : ℤ) → level_folder l ≡ level_name (level_folder_of l)
 level_named (pos n) = refl
 level_named (negsuc n) = refl
 
-seven : (a b c d e g h : Text) (c' d' e' g' h' : Text) → c ≡ c' → d ≡ d' → e ≡ e' → g ≡ g' → h ≡ h' → a ∷ b ∷ c ∷ d ∷ e ∷ g ∷ h ∷ [] ≡ a ∷ b ∷ c' ∷ d' ∷ e' ∷ g' ∷ h' ∷ []
+seven : (a b c d e g h : Text) (c' d' e' g' h' : Text) → c ≡ c' → d ≡ d' → e ≡ e' → g ≡ g' → h ≡ h'
+    → a ∷ b ∷ c ∷ d ∷ e ∷ g ∷ h ∷ [] ≡ a ∷ b ∷ c' ∷ d' ∷ e' ∷ g' ∷ h' ∷ []
 seven a b c d e g h c' d' e' g' h' p q r s t = cc
 
 -- tiles of one folder have the same folders
 same_folders : (version : ℕ) (t : Tile) (x : InFolder (Some (folder_of t))) → folders version t ≡ folders version x.tile
 same_folders version t x =
     let level = some_level_again (level_folder_of t.level.number) in
-    seven (version_folder version) (codes "Tiles") (lat_text t.cell.lat) (lon_text t.cell.lon) (dataset_folder t.family) (level_folder t.level.number) (85 ∷ decimal t.up)
-    (lat_text x.tile.cell.lat) (lon_text x.tile.cell.lon) (dataset_folder x.tile.family) (level_folder x.tile.level.number) (85 ∷ decimal x.tile.up)
+    seven (version_folder version) (codes "Tiles") (lat_text t.cell.lat) (lon_text t.cell.lon) (dataset_folder t.family)
+    (level_folder t.level.number) (85 ∷ decimal t.up)
+    (lat_text x.tile.cell.lat) (lon_text x.tile.cell.lon) (dataset_folder x.tile.family)
+    (level_folder x.tile.level.number) (85 ∷ decimal x.tile.up)
     (ap lat_text ((signed_Decides t.cell.lat x.tile.cell.lat).0 x.lat))
     (ap lon_text ((signed_Decides t.cell.lon x.tile.cell.lon).0 x.lon))
-    (dataset_named t.family ∙ ap dataset_name (dataset_is (dataset_folder_of t.family) (dataset_folder_of x.tile.family) x.dataset) ∙ sym (dataset_named x.tile.family))
-    (level_named t.level.number ∙ ap level_name (sym level ∙ level_is (level_folder_of (level_for_folder t.level.number)) (level_folder_of x.tile.level.number) x.level) ∙ sym (level_named x.tile.level.number))
+    (dataset_named t.family
+    ∙ ap dataset_name (dataset_is (dataset_folder_of t.family) (dataset_folder_of x.tile.family) x.dataset)
+    ∙ sym (dataset_named x.tile.family))
+    (level_named t.level.number
+    ∙ ap level_name
+    (sym level ∙ level_is (level_folder_of (level_for_folder t.level.number)) (level_folder_of x.tile.level.number)
+    x.level) ∙ sym (level_named x.tile.level.number))
     (ap (λ (n : ℕ). 85 ∷ decimal n) (eqb-true t.up x.tile.up x.up))
 
 -- ---- the folders of a path
@@ -149,17 +167,20 @@ pub record Reads (text : Text) (version : ℕ) (f : Folder) (end : Text) : Type 
   pub version_is : value.version ≡ version
   pub folder_is : folder_of value.tile ≡ f
   pub begins : BeginsWith (path_fields value) text 7 end
-  pub only : (x : VersionTile) (rest : Text) → BeginsWith (path_fields x) text 7 rest → (x.version ≡ version) × (folder_of x.tile ≡ f) × (rest ≡ end)
+  pub only : (x : VersionTile) (rest : Text) → BeginsWith (path_fields x) text 7 rest → (x.version ≡ version)
+      × (folder_of x.tile ≡ f) × (rest ≡ end)
 
 abbrev pub FoldersSay : Text → Result (ℕ × Folder × Text) NameError → Type 0
 FoldersSay text (Ok p) = Reads text p.0 p.1 p.2
 FoldersSay text (Err e) = (rest : Text) × Stops text rest × (wrong_at text rest ≡ e)
 
 module _ (text : Text) where
-  stopped : (r : Result (ℕ × Folder × Text) NameError) (rest : Text) → Stops text rest → Err (wrong_at text rest) ≡ r → FoldersSay text r
+  stopped : (r : Result (ℕ × Folder × Text) NameError) (rest : Text) → Stops text rest → Err (wrong_at text rest) ≡ r
+      → FoldersSay text r
   stopped r rest s e = subst (FoldersSay text) e (rest, s, refl)
 
-  finished : (version : ℕ) (lat lon : ℤ) (dataset : DatasetFolder) (level : ℤ) (up : ℕ) (end : Text) (r : Result (ℕ × Folder × Text) NameError) → Stage text 7 (Shares7 version lat lon dataset level up) end
+  finished : (version : ℕ) (lat lon : ℤ) (dataset : DatasetFolder) (level : ℤ) (up : ℕ) (end : Text)
+      (r : Result (ℕ × Folder × Text) NameError) → Stage text 7 (Shares7 version lat lon dataset level up) end
       → Ok (version, folder_with lat lon dataset level up, end) ≡ r → FoldersSay text r
   finished version lat lon dataset level up end r s e =
       let sh = shares s in
@@ -200,8 +221,11 @@ module _ (text : Text) where
                                       | inr lv ↦
                                           let s6 = stage6 text v.0.0 l.0.0 lo.0.0 d.0.0 d.0.1 s5 lv.0.0 lv.0.1 lv.1 in
                                           elim (step text lv.0.1 (up_folder_at (across lv.0.0) lv.0.1) _ r lv.2) [
-                                            | inl n ↦ stopped r lv.0.1 (stop7 text v.0.0 l.0.0 lo.0.0 d.0.0 lv.0.0 lv.0.1 s6 n.0) n.1
-                                            | inr u ↦ finished v.0.0 l.0.0 lo.0.0 d.0.0 lv.0.0 u.0.0 u.0.1 r (stage7 text v.0.0 l.0.0 lo.0.0 d.0.0 lv.0.0 lv.0.1 s6 u.0.0 u.0.1 u.1) u.2
+                                            | inl n ↦ stopped r
+                                                lv.0.1 (stop7 text v.0.0 l.0.0 lo.0.0 d.0.0 lv.0.0 lv.0.1 s6 n.0) n.1
+                                            | inr u ↦ finished v.0.0 l.0.0 lo.0.0 d.0.0 lv.0.0 u.0.0 u.0.1 r
+                                                (stage7 text v.0.0 l.0.0 lo.0.0 d.0.0 lv.0.0 lv.0.1 s6 u.0.0 u.0.1 u.1)
+                                                u.2
                                           ]
                                     ]
                               ]
@@ -213,7 +237,8 @@ module _ (text : Text) where
 -- ---- the whole path
 
 -- what a step of the reading came to
-bound : {A B : Type 0} (o : Result A NameError) (f : A → Result B NameError) (r : Result B NameError) → (o >>= f) ≡ r → ((e : NameError) × (o ≡ Err e) × (Err e ≡ r)) ⊎ ((x : A) × (o ≡ Ok x) × (f x ≡ r))
+bound : {A B : Type 0} (o : Result A NameError) (f : A → Result B NameError) (r : Result B NameError) → (o >>= f) ≡ r
+    → ((e : NameError) × (o ≡ Err e) × (Err e ≡ r)) ⊎ ((x : A) × (o ≡ Ok x) × (f x ≡ r))
 bound (Ok x) f r e = inr (x, refl, e)
 bound (Err x) f r e = inl (x, refl, e)
 
@@ -222,8 +247,10 @@ abbrev pub Says : Text → Result (ℕ × Spelled) NameError → Type 0
 Says text (Ok p) = (x : VersionTile) × (x.version ≡ p.0) × (spelled_tile x.tile ≡ p.1) × (text ≡ path x.version x.tile)
 Says text (Err e) = (rest : Text) × Stops text rest × (wrong_at text rest ≡ e)
 
-module _ (text : Text) (version : ℕ) (end : Text) (v : VersionTile) (version_is : v.version ≡ version) (begins : BeginsWith (path_fields v) text 7 end)
-    (only : (x : VersionTile) (rest : Text) → BeginsWith (path_fields x) text 7 rest → (x.version ≡ version) × (folder_of x.tile ≡ folder_of v.tile) × (rest ≡ end)) where
+module _ (text : Text) (version : ℕ) (end : Text) (v : VersionTile) (version_is : v.version ≡ version)
+    (begins : BeginsWith (path_fields v) text 7 end)
+    (only : (x : VersionTile) (rest : Text) → BeginsWith (path_fields x) text 7 rest → (x.version ≡ version)
+    × (folder_of x.tile ≡ folder_of v.tile) × (rest ≡ end)) where
   -- the folders of any tile in the folder
   of_tile : (x : InFolder (Some (folder_of v.tile))) → text ≡ spell (take 7 (path_fields (version_tile v x.tile))) end
   of_tile x = begins.parts ∙ ap (λ (fs : List Text). spell (with_slashes fs []) end) (same_folders v.version v.tile x)
@@ -234,20 +261,35 @@ module _ (text : Text) (version : ℕ) (end : Text) (v : VersionTile) (version_i
     stops = record {
       value = version_tile v s.stops.value.tile;
       count = suc (suc (suc (suc (suc (suc (suc s.stops.count))))));
-      begins = record { parts = of_tile s.stops.value ∙ ap (λ (y : Text). spell (take 7 (path_fields (version_tile v s.stops.value.tile))) y) s.stops.begins.parts; follows = s.stops.begins.follows };
+      begins =
+          record {
+            parts = of_tile s.stops.value
+                ∙ ap (λ (y : Text). spell (take 7 (path_fields (version_tile v s.stops.value.tile))) y)
+                s.stops.begins.parts;
+            follows = s.stops.begins.follows;
+          };
       no_more = λ other after b.
-          let a = only other (spell (take (suc s.stops.count) (name_fields other.tile)) after) (record { parts = b.parts; follows = refl }) in
-          s.stops.no_more (in_folder other.tile (folder_of v.tile) a.1) after (record { parts = sym a.2; follows = b.follows });
+          let a = only other (spell (take (suc s.stops.count) (name_fields other.tile)) after)
+          (record { parts = b.parts; follows = refl }) in
+          s.stops.no_more (in_folder other.tile (folder_of v.tile) a.1) after
+          (record { parts = sym a.2; follows = b.follows });
     };
     one = λ other after b.
-        let a = only other (spell (take s.stops.count (name_fields other.tile)) after) (record { parts = b.parts; follows = refl }) in
+        let a = only other (spell (take s.stops.count (name_fields other.tile)) after)
+        (record { parts = b.parts; follows = refl }) in
         s.one (in_folder other.tile (folder_of v.tile) a.1) after (record { parts = sym a.2; follows = b.follows });
   }
 
-  end_says : (r : Result Spelled NameError) → name_at (Some (folder_of v.tile)) text end ≡ r → Says text (r >>= λ s. Ok (version, s))
+  end_says : (r : Result Spelled NameError) → name_at (Some (folder_of v.tile)) text end ≡ r
+      → Says text (r >>= λ s. Ok (version, s))
   end_says (Ok s) e =
-      let n = name_says (Some (folder_of v.tile)) (is_folder v.tile) text end (Ok s) e in
-      (version_tile v n.0.tile, version_is, n.1, of_tile n.0 ∙ ap (λ (y : Text). spell (take 7 (path_fields (version_tile v n.0.tile))) y) n.2)
+      let n = name_says (Some (folder_of v.tile)) (is_folder v.tile) text end (Ok s) e in (
+        version_tile v n.0.tile,
+        version_is,
+        n.1,
+        of_tile n.0
+            ∙ ap (λ (y : Text). spell (take 7 (path_fields (version_tile v n.0.tile))) y) n.2,
+      )
   end_says (Err w) e =
       let n = name_says (Some (folder_of v.tile)) (is_folder v.tile) text end (Err w) e in
       (n.0, lifted n.0 n.1, n.2)
@@ -260,18 +302,26 @@ path_says text r e =
       | inr a ↦
           let reads = folders_say text (Ok a.0) a.1 in
           let read : Result Spelled NameError = name_at (Some (folder_of reads.value.tile)) text a.0.2 in
-          let same_read : read ≡ name_at (Some a.0.1) text a.0.2 = ap (λ (g : Folder). name_at (Some g) text a.0.2) reads.folder_is in
-          let says = end_says text a.0.0 a.0.2 reads.value reads.version_is reads.begins (λ x rest b. let o = reads.only x rest b in (o.0, o.1 ∙ sym reads.folder_is, o.2)) read refl in
+          let same_read : read ≡ name_at (Some a.0.1) text a.0.2 = ap (λ (g : Folder). name_at (Some g) text a.0.2)
+          reads.folder_is in
+          let says =
+          end_says text a.0.0 a.0.2 reads.value reads.version_is reads.begins
+          (λ x rest b. let o = reads.only x rest b in (o.0, o.1 ∙ sym reads.folder_is, o.2)) read refl in
           subst (Says text) (ap (λ (o : Result Spelled NameError). o >>= λ s. Ok (a.0.0, s)) same_read ∙ a.2) says
     ]
 
-folders_again : (text : Text) (version : ℕ) (r1 r2 : Text) (lat : ℤ) (r3 : Text) (lon : ℤ) (r4 : Text) (dataset : DatasetFolder) (r5 : Text) (level : ℤ) (r6 : Text) (up : ℕ) (r7 : Text)
-    → version_folder_at text ≡ Some (version, r1) → after (codes "Tiles/") r1 ≡ Some r2 → lat_folder_at r2 ≡ Some (lat, r3) → lon_folder_at lat r3 ≡ Some (lon, r4) → dataset_folder_at r4 ≡ Some (dataset, r5)
-    → level_folder_at r5 ≡ Some (level, r6) → up_folder_at (across level) r6 ≡ Some (up, r7) → folders_at text ≡ Ok (version, folder_with lat lon dataset level up, r7)
+folders_again : (text : Text) (version : ℕ) (r1 r2 : Text) (lat : ℤ) (r3 : Text) (lon : ℤ) (r4 : Text)
+    (dataset : DatasetFolder) (r5 : Text) (level : ℤ) (r6 : Text) (up : ℕ) (r7 : Text)
+    → version_folder_at text ≡ Some (version, r1) → after (codes "Tiles/") r1 ≡ Some r2 → lat_folder_at r2
+    ≡ Some (lat, r3) → lon_folder_at lat r3 ≡ Some (lon, r4) → dataset_folder_at r4 ≡ Some (dataset, r5)
+    → level_folder_at r5 ≡ Some (level, r6) → up_folder_at (across level) r6 ≡ Some (up, r7) → folders_at text
+    ≡ Ok (version, folder_with lat lon dataset level up, r7)
 unfolding folders_at
-folders_again text version r1 r2 lat r3 lon r4 dataset r5 level r6 up r7 e1 e2 e3 e4 e5 e6 e7 = rw (e1, e2, e3, e4, e5, e6, e7) refl
+folders_again text version r1 r2 lat r3 lon r4 dataset r5 level r6 up r7 e1 e2 e3 e4 e5 e6 e7 =
+    rw (e1, e2, e3, e4, e5, e6, e7) refl
 
-name_in_path : (text : Text) (version : ℕ) (f : Folder) (end : Text) (s : Spelled) → folders_at text ≡ Ok (version, f, end) → name_at (Some f) text end ≡ Ok s → path_at text ≡ Ok (version, s)
+name_in_path : (text : Text) (version : ℕ) (f : Folder) (end : Text) (s : Spelled) → folders_at text
+    ≡ Ok (version, f, end) → name_at (Some f) text end ≡ Ok s → path_at text ≡ Ok (version, s)
 unfolding path_at
 name_in_path text version f end s a b = rw (a, b) refl
 
@@ -282,9 +332,15 @@ path_again x =
     let t = x.tile in
     let fs = path_fields x in
     let text = path x.version x.tile in
-    let folders = folders_again text x.version (spell (drop 1 fs) []) (spell (drop 2 fs) []) t.cell.lat (spell (drop 3 fs) []) t.cell.lon (spell (drop 4 fs) []) (dataset_folder_of t.family) (spell (drop 5 fs) []) (level_for_folder t.level.number) (spell (drop 6 fs) []) t.up (name t)
-    (version_reads x (spell (drop 1 fs) [])) (after_again (codes "Tiles/") (spell (drop 2 fs) [])) (lat_reads t (spell (drop 3 fs) [])) (lon_reads t (spell (drop 4 fs) [])) (dataset_folder_again t.family (spell (drop 5 fs) [])) (level_reads t (spell (drop 6 fs) [])) (up_reads t (name t)) in
-    name_in_path text x.version (folder_of t) (name t) (spelled_tile t) folders (name_again (Some (folder_of t)) (is_folder t) text (in_folder t (folder_of t) refl))
+    let folders = folders_again text x.version (spell (drop 1 fs) []) (spell (drop 2 fs) [])
+    t.cell.lat (spell (drop 3 fs) []) t.cell.lon (spell (drop 4 fs) []) (dataset_folder_of t.family)
+    (spell (drop 5 fs) []) (level_for_folder t.level.number) (spell (drop 6 fs) []) t.up (name t)
+    (version_reads x (spell (drop 1 fs) [])) (after_again (codes "Tiles/") (spell (drop 2 fs) []))
+    (lat_reads t (spell (drop 3 fs) [])) (lon_reads t (spell (drop 4 fs) []))
+    (dataset_folder_again t.family (spell (drop 5 fs) [])) (level_reads t (spell (drop 6 fs) []))
+    (up_reads t (name t)) in
+    name_in_path text x.version (folder_of t) (name t) (spelled_tile t) folders
+    (name_again (Some (folder_of t)) (is_folder t) text (in_folder t (folder_of t) refl))
 
 -- ---- by tiles
 
@@ -292,19 +348,22 @@ path_again x =
 abbrev pub spelled_path : ℕ × Tile → ℕ × Spelled
 spelled_path p = (p.0, spelled_tile p.1)
 
-pub path_versions : (text : Text) (r : Result (ℕ × Tile) NameError) → IsReadAs spelled_path r (path_at text) → IfOk r (λ p. (1 ≤ p.0) × (p.0 ≤ 4096))
+pub path_versions : (text : Text) (r : Result (ℕ × Tile) NameError) → IsReadAs spelled_path r (path_at text)
+    → IfOk r (λ p. (1 ≤ p.0) × (p.0 ≤ 4096))
 path_versions text (Ok p) e =
     let s = path_says text (Ok (p.0, spelled_tile p.1)) e in
     (subst (λ (k : ℕ). 1 ≤ k) s.1 s.0.from_one, subst (λ (k : ℕ). k ≤ 4096) s.1 s.0.to_last)
 path_versions text (Err e) h = tt
 
-pub path_found : (text : Text) (r : Result (ℕ × Tile) NameError) → IsReadAs spelled_path r (path_at text) → IfOk r (λ p. text ≡ path p.0 p.1)
+pub path_found : (text : Text) (r : Result (ℕ × Tile) NameError) → IsReadAs spelled_path r (path_at text)
+    → IfOk r (λ p. text ≡ path p.0 p.1)
 path_found text (Ok p) e =
     let s = path_says text (Ok (p.0, spelled_tile p.1)) e in
     s.3 ∙ ap (λ (k : ℕ). path k s.0.tile) s.1 ∙ ap (path p.0) (same_tile s.0.tile p.1 s.2)
 path_found text (Err e) h = tt
 
-pub path_only : (text : Text) (r : Result (ℕ × Tile) NameError) → IsReadAs spelled_path r (path_at text) → (version : ℕ) (t : Tile) → 1 ≤ version → version ≤ 4096 → text ≡ path version t → r ≡ Ok (version, t)
+pub path_only : (text : Text) (r : Result (ℕ × Tile) NameError) → IsReadAs spelled_path r (path_at text)
+    → (version : ℕ) (t : Tile) → 1 ≤ version → version ≤ 4096 → text ≡ path version t → r ≡ Ok (version, t)
 path_only text r e version t first last is = by r e
   where
     again : path_at text ≡ Ok (version, spelled_tile t)
@@ -321,9 +380,11 @@ path_only text r e version t first last is = by r e
         let a : ◌≡◌ {A = ℕ × Tile} (p.0, p.1) (version, p.1) = ap (λ (n : ℕ). (n, p.1)) k in
         let b : ◌≡◌ {A = ℕ × Tile} (version, p.1) (version, t) = ap (λ (u : Tile). (version, u)) l in
         ap Ok (a ∙ b)
-    by (Err w) e = let k : ◌≡◌ {A = Result (ℕ × Spelled) NameError} (Err w) (Ok (version, spelled_tile t)) = sym e ∙ again in absurd cc
+    by (Err w) e = let k : ◌≡◌ {A = Result (ℕ × Spelled) NameError} (Err w) (Ok (version, spelled_tile t)) = sym e
+        ∙ again in absurd cc
 
-pub path_wrong : (text : Text) (r : Result (ℕ × Tile) NameError) → IsReadAs spelled_path r (path_at text) → IfErr r (λ e. FirstWrong path_fields text e.place)
+pub path_wrong : (text : Text) (r : Result (ℕ × Tile) NameError) → IsReadAs spelled_path r (path_at text)
+    → IfErr r (λ e. FirstWrong path_fields text e.place)
 path_wrong text (Ok p) e = tt
 path_wrong text (Err w) e =
     let s = path_says text (Err w) e in
@@ -332,14 +393,23 @@ path_wrong text (Err w) e =
     record {
       rest = s.0;
       stops = stops;
-      place_is = ap (λ (k : ℕ). k + length s.0) (sym place) ∙ begins_at text s.0 (take stops.count (path_fields stops.value)) stops.begins.parts;
+      place_is = ap (λ (k : ℕ). k + length s.0) (sym place)
+          ∙ begins_at text s.0 (take stops.count (path_fields stops.value)) stops.begins.parts;
     }
 
 -- ---- the first wrong field is one, and of a path none is wrong
 
 are_path_fields : (x : VersionTile) → AreFields (path_fields x)
-are_path_fields x =
-    ((λ rest. refl), ((λ rest. refl), ((λ rest. refl), ((λ rest. refl), ((λ rest. refl), ((λ rest. refl), ((λ rest. refl), are_name_fields x.tile)))))))
+are_path_fields x = (
+  (λ rest. refl),
+  (
+    (λ rest. refl),
+    (
+      (λ rest. refl),
+      ((λ rest. refl), ((λ rest. refl), ((λ rest. refl), ((λ rest. refl), are_name_fields x.tile)))),
+    ),
+  ),
+)
 
 pub one_wrong_in_path : OneWrongPlaceOfPaths
 one_wrong_in_path text p q a b = by (path_at text) refl

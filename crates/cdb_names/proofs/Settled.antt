@@ -29,31 +29,37 @@ fewer (f ∷ fs) are (suc n) (suc m) le rest h =
     (i.0, (ap (λ (text : Text). f ++ text) i.1.0, i.1.1))
 
 -- a text of all these fields begins with any number of them
-any_number : (fs : List Text) → AreFields fs → (n : ℕ) → (after : Text) × ((spell fs [] ≡ spell (take n fs) after) × IsTrue (may_follow (drop n fs) after))
+any_number : (fs : List Text) → AreFields fs → (n : ℕ) → (after : Text)
+    × ((spell fs [] ≡ spell (take n fs) after) × IsTrue (may_follow (drop n fs) after))
 any_number [] are zero = ([], (refl, refl))
 any_number [] are (suc n) = ([], (refl, refl))
 any_number (f ∷ fs) are zero = (f ++ spell fs [], (refl, are.0 (spell fs [])))
 any_number (f ∷ fs) are (suc n) = let i = any_number fs are.1 n in (i.0, (ap (λ (text : Text). f ++ text) i.1.0, i.1.1))
 
-begins_with_fewer : (fs : List Text) → AreFields fs → (text : Text) (n m : ℕ) → n ≤ m → (rest : Text) → BeginsWith fs text m rest → (after : Text) × BeginsWith fs text n after
+begins_with_fewer : (fs : List Text) → AreFields fs → (text : Text) (n m : ℕ) → n ≤ m → (rest : Text)
+    → BeginsWith fs text m rest → (after : Text) × BeginsWith fs text n after
 begins_with_fewer fs are text n m le rest b =
     let i = fewer fs are n m le rest b.follows in
     (i.0, record { parts = b.parts ∙ i.1.0; follows = i.1.1 })
 
 -- a text that is settled stops nowhere else
-pub one_rest : {X : Type 0} (fields : X → List Text) → ((x : X) → AreFields (fields x)) → (text rest other : Text) → Settles fields text rest → StopsBefore fields text other → other ≡ rest
+pub one_rest : {X : Type 0} (fields : X → List Text) → ((x : X) → AreFields (fields x)) → (text rest other : Text)
+    → Settles fields text rest → StopsBefore fields text other → other ≡ rest
 one_rest {X} fields are text rest other s f = elim (cases_order f.count s.stops.count) [
   | inl same ↦ s.one f.value other (subst (λ (n : ℕ). BeginsWith (fields f.value) text n other) same f.begins)
   | inr (inl lt) ↦
-      let b = begins_with_fewer (fields s.stops.value) (are s.stops.value) text (suc f.count) s.stops.count (omega arith) rest s.stops.begins in
+      let b = begins_with_fewer (fields s.stops.value) (are s.stops.value) text (suc f.count)
+      s.stops.count (omega arith) rest s.stops.begins in
       absurd (f.no_more s.stops.value b.0 b.1)
   | inr (inr lt) ↦
-      let b = begins_with_fewer (fields f.value) (are f.value) text (suc s.stops.count) f.count (omega arith) other f.begins in
+      let b = begins_with_fewer (fields f.value) (are f.value) text (suc s.stops.count) f.count (omega arith)
+      other f.begins in
       absurd (s.stops.no_more f.value b.0 b.1)
 ]
 
 -- a text of all fields of a value stops nowhere
-pub never_stops : {X : Type 0} (fields : X → List Text) → ((x : X) → AreFields (fields x)) → (text other : Text) (x : X) → text ≡ spell (fields x) [] → StopsBefore fields text other → ⊥
+pub never_stops : {X : Type 0} (fields : X → List Text) → ((x : X) → AreFields (fields x)) → (text other : Text) (x : X)
+    → text ≡ spell (fields x) [] → StopsBefore fields text other → ⊥
 never_stops fields are text other x is f =
     let i = any_number (fields x) (are x) (suc f.count) in
     f.no_more x i.0 (record { parts = is ∙ i.1.0; follows = i.1.1 })

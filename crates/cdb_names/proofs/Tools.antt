@@ -21,11 +21,13 @@ chosen true x y z e = inl (refl, e)
 chosen false x y z e = inr (refl, e)
 
 -- the option's value passes through the steps of a reader
-pub then_some : {A B : Type 0} (o : Option A) (f : A → Option B) (y : B) → option_and_then f o ≡ Some y → (x : A) × (o ≡ Some x) × (f x ≡ Some y)
+pub then_some : {A B : Type 0} (o : Option A) (f : A → Option B) (y : B) → option_and_then f o ≡ Some y → (x : A)
+    × (o ≡ Some x) × (f x ≡ Some y)
 then_some (Some x) f y e = (x, refl, e)
 then_some None f y e = absurd cc
 
-pub map_some : {A B : Type 0} (o : Option A) (f : A → B) (y : B) → option_map f o ≡ Some y → (x : A) × (o ≡ Some x) × (f x ≡ y)
+pub map_some : {A B : Type 0} (o : Option A) (f : A → B) (y : B) → option_map f o ≡ Some y → (x : A)
+    × (o ≡ Some x) × (f x ≡ y)
 map_some (Some x) f y e = (x, refl, cc)
 map_some None f y e = absurd cc
 
@@ -33,5 +35,6 @@ pub some_is : {A : Type 0} (x y : A) → Some x ≡ Some y → x ≡ y
 some_is x y e = cc
 
 -- both parts of a pair
-pub pair_is : {A B : Type 0} (a b : A) (x y : B) → let p : A × B = (a, x) in let q : A × B = (b, y) in p ≡ q → (a ≡ b) × (x ≡ y)
+pub pair_is : {A B : Type 0} (a b : A) (x y : B) → let p : A × B = (a, x) in
+    let q : A × B = (b, y) in p ≡ q → (a ≡ b) × (x ≡ y)
 pair_is {A} {B} a b x y e = (ap (λ (p : A × B). p.0) e, ap (λ (p : A × B). p.1) e)

@@ -18,8 +18,10 @@ folders_apart j k p a b =
     let e : version_folder j ++ 47 ∷ a.0 ≡ version_folder k ++ 47 ∷ b.0 = sym a.1 ∙ b.1 in
     let at = λ (i : ℕ). ap (λ (t : Text). get_or t i 0) e in
     by_myriads j k
-    (by_hundreds (j / 10000) (k / 10000) (two_tell (j / 10000 / 100) (k / 10000 / 100) (at 1) (at 2)) (two_tell (j / 10000 % 100) (k / 10000 % 100) (at 3) (at 4)))
-    (by_hundreds (j % 10000) (k % 10000) (two_tell (j % 10000 / 100) (k % 10000 / 100) (at 5) (at 6)) (two_tell (j % 10000 % 100) (k % 10000 % 100) (at 7) (at 8)))
+    (by_hundreds (j / 10000) (k / 10000) (two_tell (j / 10000 / 100) (k / 10000 / 100) (at 1) (at 2))
+    (two_tell (j / 10000 % 100) (k / 10000 % 100) (at 3) (at 4)))
+    (by_hundreds (j % 10000) (k % 10000) (two_tell (j % 10000 / 100) (k % 10000 / 100) (at 5) (at 6))
+    (two_tell (j % 10000 % 100) (k % 10000 % 100) (at 7) (at 8)))
 
 pub head_apart : (k : ℕ) → IsUnder (version_folder k) head_path → ⊥
 head_apart k a = let e : 72 ≡ 86 = ap (λ (t : Text). get_or t 0 0) a.1 in omega (arith, e)

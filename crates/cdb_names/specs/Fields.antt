@@ -28,7 +28,8 @@ two_at (a ∷ b ∷ rest) = option_map (λ n. (n, rest)) (two_of a b)
 -- the number of three digits: one, and two more
 abbrev pub three_at : Text → Option (ℕ × Text)
 three_at [] = None
-three_at (a ∷ text) = option_and_then (λ n. if is_ascii_digit a then Some ((a - 48) * 100 + n.0, n.1) else None) (two_at text)
+three_at (a ∷ text) =
+    option_and_then (λ n. if is_ascii_digit a then Some ((a - 48) * 100 + n.0, n.1) else None) (two_at text)
 
 -- the latitude of a letter and a number of degrees
 abbrev pub lat_of : ℕ → ℕ → Option ℤ
@@ -111,7 +112,8 @@ bounded_number limit ds =
 
 -- a number below the limit, of all digits that follow
 unfoldable pub bounded_number_at : ℕ → Text → Option (ℕ × Text)
-bounded_number_at limit text = option_map (λ n. (n, drop (digits_len text) text)) (bounded_number limit (take (digits_len text) text))
+bounded_number_at limit text = option_map (λ n. (n, drop (digits_len text) text))
+    (bounded_number limit (take (digits_len text) text))
 
 -- a number below the limit behind a prefix
 unfoldable pub numbered_at : Text → ℕ → Text → Option (ℕ × Text)

@@ -102,7 +102,14 @@ pub record Spelled : Type 0 where
   pub right : ℕ
 
 abbrev pub spelled_tile : Tile → Spelled
-spelled_tile t = record { family = t.family; lat = t.cell.lat; lon = t.cell.lon; level = t.level.number; up = t.up; right = t.right }
+spelled_tile t = record {
+  family = t.family;
+  lat = t.cell.lat;
+  lon = t.cell.lon;
+  level = t.level.number;
+  up = t.up;
+  right = t.right;
+}
 
 -- the tile in the folder whose file name is this end of a text, or the place of the first wrong field in the text
 unfoldable pub name_at : Option Folder → Text → Text → Result Spelled NameError
@@ -113,7 +120,9 @@ name_at folder text end = do
   level ← field_or_place text family.1 (level_in folder family.1)
   up ← field_or_place text level.1 (up_in folder (across level.0) level.1)
   right ← field_or_place text up.1 (numbered_at (codes "_R") (across level.0) up.1)
-  if bytes_eq right.1 (codes ".tif") then Ok (record { family = family.0; lat = lat.0; lon = lon.0; level = level.0; up = up.0; right = right.0 }) else Err (wrong_at text right.1)
+  if bytes_eq right.1 (codes ".tif")
+      then Ok (record { family = family.0; lat = lat.0; lon = lon.0; level = level.0; up = up.0; right = right.0 })
+      else Err (wrong_at text right.1)
 
 -- what was returned is what reading gives, as numbers
 abbrev pub IsReadAs : {X Y : Type 0} → (X → Y) → Result X NameError → Result Y NameError → Type 0

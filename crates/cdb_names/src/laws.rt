@@ -7,7 +7,8 @@ ghost use Rattle.cdb_names.specs.Places.{OneWrongPlaceOfNames, OneWrongPlaceOfPa
 /// No path stands under the folders of two versions, and neither head stands under the folder of
 /// any version.
 pub fn versions_are_apart()
-    ensures versions { (j k : ℕ) (path : Text) → IsUnder (version_folder j) path → IsUnder (version_folder k) path → j ≡ k }
+    ensures versions { (j k : ℕ) (path : Text) → IsUnder (version_folder j) path
+        → IsUnder (version_folder k) path → j ≡ k }
     ensures head { (k : ℕ) → IsUnder (version_folder k) head_path → ⊥ }
     ensures new_head { (k : ℕ) → IsUnder (version_folder k) new_head_path → ⊥ }
 {}

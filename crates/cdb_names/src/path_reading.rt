@@ -188,7 +188,8 @@ fn read_whole_path(text: &[u8]) -> Result<(u32, Tile), NameError>
 pub fn read_path(text: &[u8]) -> Result<(u32, Tile), NameError>
     ensures version { IfOk result (λ p. (1 ≤ p.0) × (p.0 ≤ MOST_VERSIONS)) }
     ensures found { IfOk result (λ p. text.now ≡ path p.0 p.1) }
-    ensures only { (version : ℕ) (t : Tile) → 1 ≤ version → version ≤ MOST_VERSIONS → text.now ≡ path version t → result ≡ Ok (version, t) }
+    ensures only { (version : ℕ) (t : Tile) → 1 ≤ version → version ≤ MOST_VERSIONS → text.now ≡ path version t
+        → result ≡ Ok (version, t) }
     ensures wrong { IfErr result (λ e. FirstWrong path_fields text.now e.place) }
 {
     read_whole_path(text)

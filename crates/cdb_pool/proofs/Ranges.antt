@@ -11,7 +11,8 @@ pub record Lies {T : Type 0} (items : List T) (frame_length k : ℕ) : Type 0 wh
   pub within : k * frame_length + frame_length ≤ length items
   pub small : length items ≤ 2 ^ 28
 
-pub lies : {T : Type 0} (items : List T) (frame_length : ℕ) (out : List Bool) (k : ℕ) {now : Bool} → IsWholeBlock items frame_length out → slice_get out k ≡ Some now → Lies items frame_length k
+pub lies : {T : Type 0} (items : List T) (frame_length : ℕ) (out : List Bool) (k : ℕ) {now : Bool}
+    → IsWholeBlock items frame_length out → slice_get out k ≡ Some now → Lies items frame_length k
 lies items m out k {now = now} whole there =
     let below = slice_get_within out k now there in
     let fits = row_fits k m (length out) m below (omega arith) in
@@ -20,17 +21,29 @@ lies items m out k {now = now} whole there =
 pub length_of : {T : Type 0} (items : List T) (m k : ℕ) → Lies items m k → length (take m (drop (k * m) items)) ≡ m
 length_of items m k l = length-take-le m (drop (k * m) items) (omega (arith, length-drop (k * m) items, l.within))
 
-pub range_is : {T : Type 0} (items : List T) (m k : ℕ) → slice_range items (k * m) (k * m + m) ≡ take m (drop (k * m) items)
+pub range_is : {T : Type 0} (items : List T) (m k : ℕ) → slice_range items (k * m) (k * m + m)
+    ≡ take m (drop (k * m) items)
 range_is items m k = ap (λ n. take n (drop (k * m) items)) (let e : k * m + m - k * m ≡ m = omega arith in e)
 
 -- what a write from a place on leaves
 pub over : {T : Type 0} (items w : List T) (start n : ℕ) → start ≤ length items → n ≡ length items →
-    let all = take start items ++ (w ++ drop (length w) (drop start items)) in take n (all ++ drop (length all) items) ≡ take (length items) all
+    let all = take start items ++ (w ++ drop (length w) (drop start items)) in take n (all ++ drop (length all) items)
+    ≡ take (length items) all
 over items w start n fits e =
     let rest = drop (length w) (drop start items) in
     let all = take start items ++ (w ++ rest) in
-    let long : length items ≤ length all = omega (arith, length-append (take start items) (w ++ rest), length-append w rest, length-take-le start items fits, length-drop (length w) (drop start items), length-drop start items) in
-    ap (λ k. take k (all ++ drop (length all) items)) e ∙ take-append-le (length items) all (drop (length all) items) long
+    let long : length items ≤ length all =
+    omega (
+      arith,
+      length-append (take start items) (w ++ rest),
+      length-append w rest,
+      length-take-le start items
+          fits,
+      length-drop (length w) (drop start items),
+      length-drop start items,
+    ) in
+    ap (λ k. take k (all ++ drop (length all) items)) e
+    ∙ take-append-le (length items) all (drop (length all) items) long
 
 -- two different frames don't meet
 pub apart : (m t f : ℕ) → t ≢ f → (t * m + m ≤ f * m) ⊎ (f * m + m ≤ t * m)

@@ -34,7 +34,8 @@ long_file (Some bytes) n size long = long_head bytes (omega (arith, long, ap val
     value None = 0
     value (Some k) = k
 
-newest_of : (list : List (List Source)) (n : ℕ) → length list ≤ 4096 → NamesNewest (head_content list) n → n ≡ length list
+newest_of : (list : List (List Source)) (n : ℕ) → length list ≤ 4096 → NamesNewest (head_content list) n
+    → n ≡ length list
 newest_of [] n few named = named
 newest_of (x ∷ list) n few (least, most, e) =
     sym (head_text_tells (length (x ∷ list)) n (omega (arith, few)) (omega (arith, most)) e)
@@ -52,7 +53,8 @@ named_some (x ∷ list) few none = none (length (x ∷ list)) (omega arith) few 
 pub names_one : (m : FileMap) (list : List (List Source)) → Stands m list → NamesNone (m head_path) → ⊥
 names_one m list stands none = named_some list stands.publications.few (subst NamesNone stands.head none)
 
-not_full : (m : FileMap) (list : List (List Source)) (version place : ℕ) → Stands m list → HasTooMany m version place → ⊥
+not_full : (m : FileMap) (list : List (List Source)) (version place : ℕ) → Stands m list
+    → HasTooMany m version place → ⊥
 not_full m list version place stands full =
     let H : ℕ → Type 0 = λ n. HasAtMost 65536 (n + 1) m in
     full.many (subst H (sym (newest_is m list full.newest stands full.named)) stands.leftovers)

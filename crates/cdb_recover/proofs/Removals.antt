@@ -110,7 +110,8 @@ module _ (folder path : Text) (old new : FileMap) where
       of q (under, there) (inr ne) = let T : Content → Type 0 = IsThere in
           ((under, subst T (others_stay path old new removed q ne) there), ne)
 
-  pub one_back : (n : ℕ) → RemovesOne path old new → AtMost n (IsLeftUnder folder new) → AtMost (n + 1) (IsLeftUnder folder old)
+  pub one_back : (n : ℕ) → RemovesOne path old new → AtMost n (IsLeftUnder folder new)
+      → AtMost (n + 1) (IsLeftUnder folder old)
   one_back n removed most =
       at_most-with n (IsLeftUnder folder new) (IsLeftUnder folder old) path (λ q was. of q was (same_text q path)) most
     where

@@ -17,19 +17,22 @@ le_true m n h = grind (arith, nat_tests)
 le_false : (m n : ℕ) → n < m → nat_le m n ≡ false
 le_false m n h = grind (arith, nat_tests)
 
-over_three : {X : Type 0} (x y z : ℕ × X) → over (Some x) (cond (nat_le z.0 y.0) (Some z) (Some y)) ≡ over (cond (nat_le y.0 x.0) (Some y) (Some x)) (Some z)
+over_three : {X : Type 0} (x y z : ℕ × X) → over (Some x) (cond (nat_le z.0 y.0) (Some z) (Some y))
+    ≡ over (cond (nat_le y.0 x.0) (Some y) (Some x)) (Some z)
 over_three x y z =
     elim (cases_lt y.0 z.0) [
       | inl a ↦ let zy : nat_le z.0 y.0 ≡ false = le_false z.0 y.0 a in
           elim (cases_lt x.0 y.0) [
-            | inl b ↦ let yx : nat_le y.0 x.0 ≡ false = le_false y.0 x.0 b in let zx : nat_le z.0 x.0 ≡ false = le_false z.0 x.0 (omega arith) in
+            | inl b ↦ let yx : nat_le y.0 x.0 ≡ false = le_false y.0 x.0 b in
+                let zx : nat_le z.0 x.0 ≡ false = le_false z.0 x.0 (omega arith) in
                 rw (zy, yx) (rw zx refl)
             | inr b ↦ let yx : nat_le y.0 x.0 ≡ true = le_true y.0 x.0 b in rw (zy, yx) (rw zy refl)
           ]
       | inr a ↦ let zy : nat_le z.0 y.0 ≡ true = le_true z.0 y.0 a in
           elim (cases_lt x.0 y.0) [
             | inl b ↦ let yx : nat_le y.0 x.0 ≡ false = le_false y.0 x.0 b in rw (zy, yx) refl
-            | inr b ↦ let yx : nat_le y.0 x.0 ≡ true = le_true y.0 x.0 b in let zx : nat_le z.0 x.0 ≡ true = le_true z.0 x.0 (omega arith) in
+            | inr b ↦ let yx : nat_le y.0 x.0 ≡ true = le_true y.0 x.0 b in
+                let zx : nat_le z.0 x.0 ≡ true = le_true z.0 x.0 (omega arith) in
                 rw (zy, yx) (rw (zx, zy) refl)
           ]
     ]
@@ -46,7 +49,8 @@ best-push (p ∷ os) o = ap (over p) (best-push os o) ∙ over_assoc p (best os)
 
 -- the best of one source more
 pub best_more : (h : ℕ) (p : Place) (ss : List Source) (i : ℕ) (s : Source) → i < length ss → s ≡ get_or ss i s
-    → best (map (offer h p) (map sampled (take (i + 1) ss))) ≡ over (best (map (offer h p) (map sampled (take i ss)))) (offer h p (sampled s))
+    → best (map (offer h p) (map sampled (take (i + 1) ss))) ≡ over (best (map (offer h p) (map sampled (take i ss))))
+    (offer h p (sampled s))
 best_more h p ss i s lt is =
     ap (λ xs. best (map (offer h p) (map sampled xs))) (take_more ss i s lt ∙ ap (λ x. take i ss ++ x ∷ []) (sym is))
     ∙ ap (λ xs. best (map (offer h p) xs)) (map-append sampled (take i ss) (s ∷ []))
@@ -54,20 +58,25 @@ best_more h p ss i s lt is =
     ∙ best-push (map (offer h p) (map sampled (take i ss))) (offer h p (sampled s))
 
 -- the best of all sources is the elevation
-pub elevation_of_best : (h : ℕ) (p : Place) (ss : List Source) (i : ℕ) (o : Option (ℕ × ℤ)) → length ss ≤ i → o ≡ best (map (offer h p) (map sampled (take i ss)))
+pub elevation_of_best : (h : ℕ) (p : Place) (ss : List Source) (i : ℕ) (o : Option (ℕ × ℤ)) → length ss ≤ i
+    → o ≡ best (map (offer h p) (map sampled (take i ss)))
     → option_map {T = ℕ × ℤ} (λ x. x.1) o ≡ elevation_of ss h p
-elevation_of_best h p ss i o le e = ap (option_map {T = ℕ × ℤ} (λ x. x.1)) (e ∙ ap (λ xs. best (map (offer h p) (map sampled xs))) (take_all i ss le))
+elevation_of_best h p ss i o le e = ap (option_map {T = ℕ × ℤ} (λ x. x.1))
+    (e ∙ ap (λ xs. best (map (offer h p) (map sampled xs))) (take_all i ss le))
 
 -- the newest material of one source more
 pub newest_more : (h : ℕ) (p : Place) (ss : List Source) (i : ℕ) (s : Source) → i < length ss → s ≡ get_or ss i s
-    → newest_own Material (map sampled (take (i + 1) ss)) h p ≡ option_or (own Material h p (sampled s)) (newest_own Material (map sampled (take i ss)) h p)
+    → newest_own Material (map sampled (take (i + 1) ss)) h p ≡ option_or (own Material h p (sampled s))
+    (newest_own Material (map sampled (take i ss)) h p)
 newest_more h p ss i s lt is =
-    ap (λ xs. newest (map (own Material h p) (map sampled xs))) (take_more ss i s lt ∙ ap (λ x. take i ss ++ x ∷ []) (sym is))
+    ap (λ xs. newest (map (own Material h p) (map sampled xs)))
+    (take_more ss i s lt ∙ ap (λ x. take i ss ++ x ∷ []) (sym is))
     ∙ ap (λ xs. newest (map (own Material h p) xs)) (map-append sampled (take i ss) (s ∷ []))
     ∙ ap newest (map-append (own Material h p) (map sampled (take i ss)) (sampled s ∷ []))
     ∙ newest-append (map (own Material h p) (map sampled (take i ss))) (own Material h p (sampled s) ∷ [])
 
 -- of all sources
-pub newest_of_all : (h : ℕ) (p : Place) (ss : List Source) (i : ℕ) (o : Option ℤ) → length ss ≤ i → o ≡ newest_own Material (map sampled (take i ss)) h p
+pub newest_of_all : (h : ℕ) (p : Place) (ss : List Source) (i : ℕ) (o : Option ℤ) → length ss ≤ i
+    → o ≡ newest_own Material (map sampled (take i ss)) h p
     → o ≡ newest_own Material (map sampled ss) h p
 newest_of_all h p ss i o le e = e ∙ ap (λ xs. newest_own Material (map sampled xs) h p) (take_all i ss le)

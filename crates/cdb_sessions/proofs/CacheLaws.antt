@@ -34,7 +34,12 @@ one_kept pool frame (Some pair) = omega arith
 pub few_kept : (pool : Frames ℕ) (entries : List NumberedSlot) → length (kept_files pool entries) ≤ length entries
 few_kept pool [] = omega arith
 few_kept pool (e ∷ es) =
-    omega (arith, length-append (kept_one pool e) (kept_files pool es), one_kept pool e.1.frame e.1.pair, few_kept pool es)
+    omega (
+      arith,
+      length-append (kept_one pool e) (kept_files pool es),
+      one_kept pool e.1.frame e.1.pair,
+      few_kept pool es,
+    )
 
 -- ---- an element comes to the front
 
@@ -66,7 +71,8 @@ below_moved P spare us e vs h =
     let m = all_moved P (frames_of us) e.1.frame (frames_of vs) all in
     (h.0, (m.0, subst (AllByRecursion P) (sym (map-append frame us vs)) m.1))
 
-first_without : (us : List NumberedSlot) (e : NumberedSlot) (vs : List NumberedSlot) → FilesFirst (us ++ e ∷ vs) → FilesFirst (us ++ vs)
+first_without : (us : List NumberedSlot) (e : NumberedSlot) (vs : List NumberedSlot) → FilesFirst (us ++ e ∷ vs)
+    → FilesFirst (us ++ vs)
 first_without [] e vs h = h.1
 first_without (u ∷ us) e vs h =
     ((λ none. (all_moved (λ (f : NumberedSlot). f.1.pair ≡ None) us e vs (h.0 none)).1), first_without us e vs h.1)
@@ -114,7 +120,8 @@ moved_cache pool frames old new spare frame pair h cap m =
     (first_without m.before e m.after (subst FilesFirst m.was h.files_first)) in
     let apart = still_apart _ _ perm (subst (λ (es : List NumberedSlot). IsDistinct nat_eq (spare ∷ frames_of es)) m.was
     h.apart) in
-    let was_below = subst (λ (es : List NumberedSlot). AllByRecursion (λ f. f < 8) (spare ∷ frames_of es)) m.was h.below in
+    let was_below = subst (λ (es : List NumberedSlot). AllByRecursion (λ f. f < 8) (spare ∷ frames_of es))
+    m.was h.below in
     let below = below_moved (λ f. f < 8) spare m.before e m.after was_below in
     record {
       pooled = h.pooled;
@@ -144,7 +151,8 @@ module _ (pool : Frames ℕ) (pair : Pair) where
     h,
   )
 
-  pub none_kept : (es : List NumberedSlot) → AllByRecursion (λ e. holds pair e.1 ≡ false) es → HasNone pair (kept_files pool es)
+  pub none_kept : (es : List NumberedSlot) → AllByRecursion (λ e. holds pair e.1 ≡ false) es
+      → HasNone pair (kept_files pool es)
   none_kept [] h = tt
   none_kept (e ∷ es) h = none_one e.1.frame e.1.pair (kept_files pool es) h.0 (none_kept es h.1)
 
@@ -175,7 +183,8 @@ module _ (pool : Frames ℕ) (last : NumberedSlot) where
       ∙ ap (λ n. take n (kept_files pool (u ∷ us ++ last ∷ []))) (let e : suc (length us)
       ≡ length (u ∷ us) = omega arith in e)
 
-renewed_length : (us : List NumberedSlot) (last : NumberedSlot) (es : List NumberedSlot) → es ≡ us ++ last ∷ [] → length es ≡ 7
+renewed_length : (us : List NumberedSlot) (last : NumberedSlot) (es : List NumberedSlot) → es ≡ us ++ last ∷ []
+    → length es ≡ 7
     → length us ≡ 6
 renewed_length us last es was count = omega (arith, ap length was, length-append us (last ∷ []))
 

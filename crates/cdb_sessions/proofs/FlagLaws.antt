@@ -59,7 +59,9 @@ taken p pool n k lt e first =
           ∙ ap (λ (out : List Bool). let q : Frames ℕ = record pool { out = out } in q) set;
     }
 
-pub more_numbered : (frames : List Frame) (frame : Frame) (n k : ℕ) → frames ≡ numbered_frames n → frame.number ≡ k → k ≡ n
+pub more_numbered : (frames : List Frame) (frame : Frame) (n k : ℕ) → frames ≡ numbered_frames n
+    → frame.number ≡ k → k ≡ n
     → frames ++ frame ∷ [] ≡ numbered_frames (n + 1)
 more_numbered frames frame n k e f is =
-    ap (λ l. l ++ frame ∷ []) e ∙ ap (λ j. numbered_frames n ++ frame_of j ∷ []) (f ∙ is) ∙ ap numbered_frames (sym (add-one n))
+    ap (λ l. l ++ frame ∷ []) e ∙ ap (λ j. numbered_frames n ++ frame_of j ∷ []) (f ∙ is)
+    ∙ ap numbered_frames (sym (add-one n))

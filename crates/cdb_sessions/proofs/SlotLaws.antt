@@ -127,7 +127,8 @@ renews old n s some d e =
 abbrev pub Found : Option (ℕ × ℕ) → Option (ℕ × ℕ) → Type 0
 Found a b = a ≡ b
 
-with_found : (pair : Pair) (es : List NumberedSlot) (n frame : ℕ) → IsDistinct nat_eq (keys_of es) → (o : Option NumberedSlot)
+with_found : (pair : Pair) (es : List NumberedSlot) (n frame : ℕ) → IsDistinct nat_eq (keys_of es)
+    → (o : Option NumberedSlot)
     → find (λ (e : NumberedSlot). holds pair e.1) es ≡ o
     → Found (Some (n, frame)) (option_map (λ (e : NumberedSlot). (e.0, e.1.frame)) o)
     → IsMoved pair frame es (promoted (nat_eq n) es)
@@ -148,10 +149,12 @@ none_with p es (Some f) found e = absurd cc
 pub none_holds : (pair : Pair) (es : List NumberedSlot)
     → Found None (option_map (λ (e : NumberedSlot). (e.0, e.1.frame)) (find (λ (e : NumberedSlot). holds pair e.1) es))
     → AllByRecursion (λ e. holds pair e.1 ≡ false) es
-none_holds pair es e = none_with (λ (f : NumberedSlot). holds pair f.1) es (find (λ (f : NumberedSlot). holds pair f.1) es) refl e
+none_holds pair es e = none_with (λ (f : NumberedSlot). holds pair f.1) es
+    (find (λ (f : NumberedSlot). holds pair f.1) es) refl e
 
 -- what a look-up among the slots told
 pub found_moved : (pair : Pair) (es : List NumberedSlot) (n frame : ℕ) → IsDistinct nat_eq (keys_of es)
-    → Found (Some (n, frame)) (option_map (λ (e : NumberedSlot). (e.0, e.1.frame)) (find (λ (e : NumberedSlot). holds pair e.1) es))
+    → Found (Some (n, frame))
+    (option_map (λ (e : NumberedSlot). (e.0, e.1.frame)) (find (λ (e : NumberedSlot). holds pair e.1) es))
     → IsMoved pair frame es (promoted (nat_eq n) es)
 found_moved pair es n frame d e = with_found pair es n frame d (find (λ (f : NumberedSlot). holds pair f.1) es) refl e

@@ -60,7 +60,8 @@ pub fn use_slot(slots: &mut Slots, pair: &Pair) -> Option<u8>
     ensures cap { slots.new.cap ≡ slots.old.cap }
     ensures moved { MatchOption result (slots.new ≡ slots.old)
         (λ frame. IsMoved pair.now frame slots.old.entries slots.new.entries) }
-    ensures absent { MatchOption result (AllByRecursion (λ (e : NumberedSlot). holds pair.now e.1 ≡ false) slots.old.entries)
+    ensures absent { MatchOption result
+        (AllByRecursion (λ (e : NumberedSlot). holds pair.now e.1 ≡ false) slots.old.entries)
         (λ _. Unit {0}) }
 {
     let _count = slots.len();

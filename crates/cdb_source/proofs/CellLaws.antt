@@ -42,7 +42,8 @@ least_of_either P Q (Some x) (Some y) p q = elim (cases_Bool (int_lt y x)) [
   | inr f ↦ rw f (inl p.0, λ w m. elim m [ inl l ↦ p.1 w l | inr r ↦ le_of_not y x w f (q.1 w r) ])
 ]
 
-greatest_of_either : (P Q : ℤ → Type 0) (a b : Option ℤ) → IsGreatest P a → IsGreatest Q b → IsGreatest (Either P Q) (greater a b)
+greatest_of_either : (P Q : ℤ → Type 0) (a b : Option ℤ) → IsGreatest P a → IsGreatest Q b
+    → IsGreatest (Either P Q) (greater a b)
 greatest_of_either P Q None None p q = λ v m. elim m [ inl x ↦ p v x | inr y ↦ q v y ]
 greatest_of_either P Q (Some x) None p q = (inl p.0, λ w m. elim m [ inl l ↦ p.1 w l | inr r ↦ absurd (q w r) ])
 greatest_of_either P Q None (Some y) p q = (inr q.0, λ w m. elim m [ inl l ↦ absurd (p w l) | inr r ↦ q.1 w r ])
@@ -61,11 +62,13 @@ greatest_of_one None = λ v e. cc
 greatest_of_one (Some x) = (refl, λ w e. let same : w ≡ x = cc in le_same w x same)
 
 -- of two sets with the same members
-least_of_same : (P Q : ℤ → Type 0) → ((v : ℤ) → P v → Q v) → ((v : ℤ) → Q v → P v) → (r : Option ℤ) → IsLeast P r → IsLeast Q r
+least_of_same : (P Q : ℤ → Type 0) → ((v : ℤ) → P v → Q v) → ((v : ℤ) → Q v → P v) → (r : Option ℤ)
+    → IsLeast P r → IsLeast Q r
 least_of_same P Q to from None p = λ v m. p v (from v m)
 least_of_same P Q to from (Some x) p = (to x p.0, λ w m. p.1 w (from w m))
 
-greatest_of_same : (P Q : ℤ → Type 0) → ((v : ℤ) → P v → Q v) → ((v : ℤ) → Q v → P v) → (r : Option ℤ) → IsGreatest P r → IsGreatest Q r
+greatest_of_same : (P Q : ℤ → Type 0) → ((v : ℤ) → P v → Q v) → ((v : ℤ) → Q v → P v) → (r : Option ℤ) → IsGreatest P r
+    → IsGreatest Q r
 greatest_of_same P Q to from None p = λ v m. p v (from v m)
 greatest_of_same P Q to from (Some x) p = (to x p.0, λ w m. p.1 w (from w m))
 
@@ -113,19 +116,39 @@ module _ (ss : List Sampled) (h : ℕ) (c : Place) where
             inl (ap (λ (n : ℕ). elevation ss n c) (sym level) ∙ ap (elevation ss k) (sym same) ∙ r.value)
         | inr finer ↦
             let one = in_child h c q lt corner r.inside in
-            which one.up one.right v one.up_below one.right_below (k, q, record { real = r.real; fine = finer; corner = r.corner; inside = one.inside; value = r.value })
+            which one.up one.right v
+            one.up_below one.right_below
+            (k, q, record { real = r.real; fine = finer; corner = r.corner; inside = one.inside; value = r.value })
       ]
 
   from_child : h < 34 → IsCorner (suc h) c → (i j : ℕ) → i < 2 → j < 2 → (v : ℤ) → Child i j v → ValueIn ss (suc h) c v
   from_child lt corner i j up right v m =
-      let r = m.2 in let f = r.fine in
-      (m.0, m.1, record { real = r.real; fine = omega arith; corner = r.corner; inside = in_parent h i j c m.1 lt up right corner r.inside; value = r.value })
+      let r = m.2 in let f = r.fine in (
+        m.0,
+        m.1,
+        record {
+          real = r.real;
+          fine = omega arith;
+          corner = r.corner;
+          inside = in_parent h i j c m.1 lt up right corner r.inside;
+          value = r.value;
+        },
+      )
 
   from_corner : h < 34 → IsCorner (suc h) c → (v : ℤ) → Corner v → ValueIn ss (suc h) c v
   from_corner lt corner v e =
       let p : 0 < step (suc h) = step-pos (suc h) in
-      let q : 0 < step_east (suc h) c = mul-pos (width_of-pos c) p in
-      (suc h, c, record { real = omega arith; fine = omega arith; corner = corner; inside = record { south = omega arith; north = omega arith; west = omega arith; east = omega arith }; value = e })
+      let q : 0 < step_east (suc h) c = mul-pos (width_of-pos c) p in (
+        suc h,
+        c,
+        record {
+          real = omega arith;
+          fine = omega arith;
+          corner = corner;
+          inside = record { south = omega arith; north = omega arith; west = omega arith; east = omega arith };
+          value = e;
+        },
+      )
 
   from_parts : h < 34 → IsCorner (suc h) c → (v : ℤ) → Parts v → ValueIn ss (suc h) c v
   from_parts lt corner v m =
@@ -133,8 +156,14 @@ module _ (ss : List Sampled) (h : ℕ) (c : Place) where
       elim m [
         | inl e ↦ from_corner lt corner v e
         | inr rows ↦ elim rows [
-          | inl south ↦ elim south [ inl w ↦ from_child lt corner 0 0 none none v w | inr e ↦ from_child lt corner 0 1 none one v e ]
-          | inr north ↦ elim north [ inl w ↦ from_child lt corner 1 0 one none v w | inr e ↦ from_child lt corner 1 1 one one v e ]
+          | inl south ↦ elim south [
+            | inl w ↦ from_child lt corner 0 0 none none v w
+            | inr e ↦ from_child lt corner 0 1 none one v e
+          ]
+          | inr north ↦ elim north [
+            | inl w ↦ from_child lt corner 1 0 one none v w
+            | inr e ↦ from_child lt corner 1 1 one one v e
+          ]
         ]
       ]
 

@@ -22,7 +22,12 @@ pub record LoadTiles (heads : List SourceHead) (load : ℕ) : Type 0 where
   pub all : (t : Tile) → Reached heads t → Contains tiles t
 
 pub load_tiles : (heads : List SourceHead) (load : ℕ) → IsLoad heads load → LoadTiles heads load
-load_tiles [] load e = record { tiles = []; count = sym e; all = λ t reached. absurd (none_there reached.number reached.head reached.there) }
+load_tiles [] load e =
+    record {
+      tiles = [];
+      count = sym e;
+      all = λ t reached. absurd (none_there reached.number reached.head reached.there);
+    }
   where
     none_there : (k : ℕ) (h : SourceHead) → slice_get [] k ≡ Some h → ⊥
     none_there k h e = let Gone : Option SourceHead → Type 0 = IsGone in subst Gone e tt
@@ -39,7 +44,8 @@ load_tiles (head ∷ heads) load (count, rest, both) = of (load_tiles heads rest
       all = λ t reached. all t reached.number reached.head reached.there reached.reaches;
     }
       where
-        all : (t : Tile) (k : ℕ) (h : SourceHead) → slice_get (head ∷ heads) k ≡ Some h → Reaches h t → Contains ((both.0).tiles ++ others.tiles) t
+        all : (t : Tile) (k : ℕ) (h : SourceHead) → slice_get (head ∷ heads) k ≡ Some h → Reaches h t
+            → Contains ((both.0).tiles ++ others.tiles) t
         all t zero h there reaches = Contains-append_left (both.0).tiles others.tiles t
             (((both.0).listed.exact t).1 (subst (λ (g : SourceHead). Reaches g t) (sym (some_is head h there)) reaches))
         all t (suc k) h there reaches = Contains-append_right (both.0).tiles others.tiles t
@@ -48,5 +54,6 @@ load_tiles (head ∷ heads) load (count, rest, both) = of (load_tiles heads rest
 pub within_load : TouchedWithinLoad
 within_load heads load tiles is touched =
     let all = load_tiles heads load is in
-    let few : length tiles ≤ length all.tiles = length_le tiles all.tiles (ascending_once tiles touched.ordered) (λ t c. all.all t ((touched.exact t).0 c)) in
+    let few : length tiles ≤ length all.tiles = length_le tiles all.tiles (ascending_once tiles touched.ordered)
+    (λ t c. all.all t ((touched.exact t).0 c)) in
     subst (λ (n : ℕ). length tiles ≤ n) all.count few

@@ -46,31 +46,40 @@ either_none None b e = (refl, e)
 either_none (Some v) b e = absurd (cc)
 
 abbrev four : List Sampled → ℕ → Place → Option ℤ
-four ss h c = mode_of_four (material ss h (beside h c 0 0)) (material ss h (beside h c 0 1)) (material ss h (beside h c 1 0)) (material ss h (beside h c 1 1))
+four ss h c = mode_of_four (material ss h (beside h c 0 0)) (material ss h (beside h c 0 1))
+    (material ss h (beside h c 1 0)) (material ss h (beside h c 1 1))
 
 -- where there is no material, there was none before the later sources
-pub earlier_no_material : (ss ts : List Sampled) (h : ℕ) (c : Place) → material (ss ++ ts) h c ≡ None → material ss h c ≡ None
+pub earlier_no_material : (ss ts : List Sampled) (h : ℕ) (c : Place) → material (ss ++ ts) h c ≡ None
+    → material ss h c ≡ None
 unfolding material
 earlier_no_material ss ts zero c e = refl
 earlier_no_material ss ts (suc h) c e =
     let parts = either_none (four (ss ++ ts) h c) (newest_own Material (ss ++ ts) (suc h) (centre (suc h) c)) e in
-    let own = either_none (newest_own Material ts (suc h) (centre (suc h) c)) (newest_own Material ss (suc h) (centre (suc h) c))
+    let own = either_none (newest_own Material ts (suc h) (centre (suc h) c))
+    (newest_own Material ss (suc h) (centre (suc h) c))
     (sym (newest_own-append Material ss ts (suc h) (centre (suc h) c)) ∙ parts.1) in
-    let none = none_of_four (material (ss ++ ts) h (beside h c 0 0)) (material (ss ++ ts) h (beside h c 0 1)) (material (ss ++ ts) h (beside h c 1 0)) (material (ss ++ ts) h (beside h c 1 1)) parts.0 in
-    let before = of_none (material ss h (beside h c 0 0)) (material ss h (beside h c 0 1)) (material ss h (beside h c 1 0)) (material ss h (beside h c 1 1))
+    let none = none_of_four (material (ss ++ ts) h (beside h c 0 0)) (material (ss ++ ts) h (beside h c 0 1))
+    (material (ss ++ ts) h (beside h c 1 0)) (material (ss ++ ts) h (beside h c 1 1)) parts.0 in
+    let before = of_none (material ss h (beside h c 0 0)) (material ss h (beside h c 0 1))
+    (material ss h (beside h c 1 0)) (material ss h (beside h c 1 1))
     (earlier_no_material ss ts h (beside h c 0 0) none.first) (earlier_no_material ss ts h (beside h c 0 1) none.second)
-    (earlier_no_material ss ts h (beside h c 1 0) none.third) (earlier_no_material ss ts h (beside h c 1 1) none.fourth) in
+    (earlier_no_material ss ts h (beside h c 1 0) none.third)
+    (earlier_no_material ss ts h (beside h c 1 1) none.fourth) in
     rw (before, own.1) refl
 
 four_none : (ss ts : List Sampled) (h : ℕ) (c : Place) → four (ss ++ ts) h c ≡ None → four ss h c ≡ None
 four_none ss ts h c e =
-    let none = none_of_four (material (ss ++ ts) h (beside h c 0 0)) (material (ss ++ ts) h (beside h c 0 1)) (material (ss ++ ts) h (beside h c 1 0)) (material (ss ++ ts) h (beside h c 1 1)) e in
-    of_none (material ss h (beside h c 0 0)) (material ss h (beside h c 0 1)) (material ss h (beside h c 1 0)) (material ss h (beside h c 1 1))
+    let none = none_of_four (material (ss ++ ts) h (beside h c 0 0)) (material (ss ++ ts) h (beside h c 0 1))
+    (material (ss ++ ts) h (beside h c 1 0)) (material (ss ++ ts) h (beside h c 1 1)) e in
+    of_none (material ss h (beside h c 0 0)) (material ss h (beside h c 0 1)) (material ss h (beside h c 1 0))
+    (material ss h (beside h c 1 1))
     (earlier_no_material ss ts h (beside h c 0 0) none.first) (earlier_no_material ss ts h (beside h c 0 1) none.second)
     (earlier_no_material ss ts h (beside h c 1 0) none.third) (earlier_no_material ss ts h (beside h c 1 1) none.fourth)
 
 -- the material by its definition
-pub material-suc : (ss : List Sampled) (h : ℕ) (c : Place) → material ss (suc h) c ≡ option_or (four ss h c) (newest_own Material ss (suc h) (centre (suc h) c))
+pub material-suc : (ss : List Sampled) (h : ℕ) (c : Place) → material ss (suc h) c
+    ≡ option_or (four ss h c) (newest_own Material ss (suc h) (centre (suc h) c))
 unfolding material
 material-suc ss h c = refl
 
@@ -80,14 +89,21 @@ material-zero ss c = refl
 
 -- the four finer cells, then the later sources of exactly this level, then what was there before
 pub material_later : (ss ts : List Sampled) (h : ℕ) (c : Place)
-    → material (ss ++ ts) (suc h) c ≡ option_or (four (ss ++ ts) h c) (option_or (newest_own Material ts (suc h) (centre (suc h) c)) (material ss (suc h) c))
+    → material (ss ++ ts) (suc h) c
+    ≡ option_or (four (ss ++ ts) h c)
+    (option_or (newest_own Material ts (suc h) (centre (suc h) c)) (material ss (suc h) c))
 material_later ss ts h c =
-    material-suc (ss ++ ts) h c ∙ ap (option_or (four (ss ++ ts) h c)) (newest_own-append Material ss ts (suc h) (centre (suc h) c))
+    material-suc (ss ++ ts) h c
+    ∙ ap (option_or (four (ss ++ ts) h c)) (newest_own-append Material ss ts (suc h) (centre (suc h) c))
     ∙ go (four (ss ++ ts) h c) refl
   where
     go : (o : Option ℤ) → four (ss ++ ts) h c ≡ o
-        → option_or o (option_or (newest_own Material ts (suc h) (centre (suc h) c)) (newest_own Material ss (suc h) (centre (suc h) c)))
+        → option_or o
+        (option_or (newest_own Material ts (suc h) (centre (suc h) c))
+        (newest_own Material ss (suc h) (centre (suc h) c)))
         ≡ option_or o (option_or (newest_own Material ts (suc h) (centre (suc h) c)) (material ss (suc h) c))
     go (Some v) e = refl
     go None e = ap (option_or (newest_own Material ts (suc h) (centre (suc h) c)))
-        (sym (material-suc ss h c ∙ ap (λ (o : Option ℤ). option_or o (newest_own Material ss (suc h) (centre (suc h) c))) (four_none ss ts h c e)))
+        (sym (material-suc ss h c
+        ∙ ap (λ (o : Option ℤ). option_or o (newest_own Material ss (suc h) (centre (suc h) c)))
+        (four_none ss ts h c e)))

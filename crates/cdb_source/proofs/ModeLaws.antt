@@ -33,7 +33,8 @@ module _ (all : List ℤ) where
   beats_through u v w (inl a) (inl b) = inl (omega arith)
   beats_through u v w (inl a) (inr b) = let e = b.0 in inl (omega arith)
   beats_through u v w (inr a) (inl b) = let e = a.0 in inl (omega arith)
-  beats_through u v w (inr a) (inr b) = let e = a.0 in let f = b.0 in let g = a.1 in let h = b.1 in inr (omega arith, omega (arith, ints))
+  beats_through u v w (inr a) (inr b) = let e = a.0 in let f = b.0 in let g = a.1 in
+      let h = b.1 in inr (omega arith, omega (arith, ints))
 
   abbrev is_beaten : ℤ → ℤ → Bool
   is_beaten v w = nat_lt (count_of all v) (count_of all w) || (nat_eq (count_of all v) (count_of all w) && int_lt w v)
@@ -78,12 +79,14 @@ module _ (all : List ℤ) where
     | inr f ↦ rw f (unbeaten (count_of all v) (count_of all w) v w f)
   ]
 
-  fold_one : (v : ℤ) (values : List ℤ) → (fold (oftener all) v values ≡ v) ⊎ Contains values (fold (oftener all) v values)
+  fold_one : (v : ℤ) (values : List ℤ) → (fold (oftener all) v values ≡ v)
+      ⊎ Contains values (fold (oftener all) v values)
   fold_one v [] = inl refl
   fold_one v (w ∷ values) =
       let rec = fold_one (oftener all v w) values in
       elim rec [
-        | inl e ↦ elim (one_of v w) [ inl p ↦ inl (e ∙ p) | inr q ↦ inr (here w (fold (oftener all) (oftener all v w) values) values (e ∙ q)) ]
+        | inl e ↦ elim (one_of v w)
+            [ inl p ↦ inl (e ∙ p) | inr q ↦ inr (here w (fold (oftener all) (oftener all v w) values) values (e ∙ q)) ]
         | inr m ↦ inr (there w (fold (oftener all) (oftener all v w) values) values m)
       ]
 
@@ -98,7 +101,8 @@ module _ (all : List ℤ) where
   fold_rest v (w ∷ values) y m =
       let rec = fold_rest (oftener all v w) values y in
       elim (either w y values m) [
-        | inl e ↦ beats_through (fold (oftener all) (oftener all v w) values) (oftener all v w) y (fold_first (oftener all v w) values) (rw (← e) (beats_second v w))
+        | inl e ↦ beats_through (fold (oftener all) (oftener all v w) values) (oftener all v w) y
+            (fold_first (oftener all v w) values) (rw (← e) (beats_second v w))
         | inr k ↦ rec k
       ]
 
@@ -118,7 +122,8 @@ mode_is (v ∷ values) = record {
     | inr m ↦ there v (fold (oftener (v ∷ values)) v values) values m
   ];
   greatest = λ w m. elim (either v w values m) [
-    | inl e ↦ subst (λ (z : ℤ). Beats (v ∷ values) (fold (oftener (v ∷ values)) v values) z) e (fold_first (v ∷ values) v values)
+    | inl e ↦ subst (λ (z : ℤ). Beats (v ∷ values) (fold (oftener (v ∷ values)) v values) z) e
+        (fold_first (v ∷ values) v values)
     | inr k ↦ fold_rest (v ∷ values) v values w k
   ];
 }
@@ -128,4 +133,5 @@ pub mode_only : (values : List ℤ) (a b : Option ℤ) → IsMode values a → I
 mode_only values None None k l = refl
 mode_only values None (Some w) k l = absurd (k w l.there)
 mode_only values (Some v) None k l = absurd (l v k.there)
-mode_only values (Some v) (Some w) k l = ap (λ (z : ℤ). Some z) (beats_only values v w (k.greatest w l.there) (l.greatest v k.there))
+mode_only values (Some v) (Some w) k l =
+    ap (λ (z : ℤ). Some z) (beats_only values v w (k.greatest w l.there) (l.greatest v k.there))

@@ -20,7 +20,8 @@ over_none (Some x) = refl
 -- the newest of two lists in a row
 pub newest-append : {X : Type 0} (xs ys : List (Option X)) → newest (xs ++ ys) ≡ option_or (newest ys) (newest xs)
 newest-append [] ys = sym (or_none (newest ys))
-newest-append (x ∷ xs) ys = let rec = newest-append xs ys in ap (λ o. option_or o x) rec ∙ or_assoc (newest ys) (newest xs) x
+newest-append (x ∷ xs) ys = let rec = newest-append xs ys in ap (λ o. option_or o x) rec
+    ∙ or_assoc (newest ys) (newest xs) x
 
 -- an offer at the height above h, tagged with that height
 abbrev pub tagged : {X : Type 0} → ℕ → Option X → Option (ℕ × X)
@@ -49,11 +50,14 @@ pub over_up_to : {X : Type 0} (h : ℕ) (a b : Option (ℕ × X)) → IsUpTo h a
 over_up_to h None None p q = tt
 over_up_to h None (Some y) p q = q
 over_up_to h (Some x) None p q = p
-over_up_to {X} h (Some x) (Some y) p q = elim (nat_le y.0 x.0) as (λ b. IfSome {T = ℕ × X} (cond b (Some y) (Some x)) (λ z. z.0 ≤ h)) [ true ↦ q | false ↦ p ]
+over_up_to {X} h (Some x) (Some y) p q =
+    elim (nat_le y.0 x.0) as (λ b. IfSome {T = ℕ × X} (cond b (Some y) (Some x)) (λ z. z.0 ≤ h))
+    [ true ↦ q | false ↦ p ]
 
 -- one height more: what stands at it is what stood below, else the newest of exactly this height
 pub over_step : {X : Type 0} (h : ℕ) (a b : Option (ℕ × X)) (o n : Option X) → IsUpTo h a → IsUpTo h b
-    → over (option_or a (tagged (suc h) o)) (option_or b (tagged (suc h) n)) ≡ option_or (over a b) (tagged (suc h) (option_or n o))
+    → over (option_or a (tagged (suc h) o)) (option_or b (tagged (suc h) n))
+    ≡ option_or (over a b) (tagged (suc h) (option_or n o))
 over_step h None None None None p q = refl
 over_step h None None (Some v) None p q = refl
 over_step h None None None (Some w) p q = refl
@@ -63,15 +67,20 @@ over_step h None (Some y) (Some v) n p q = let k : y.0 ≤ suc h = omega (arith,
 over_step h (Some x) None o None p q = refl
 over_step h (Some x) None o (Some w) p q = let k : x.0 < suc h = omega (arith, p) in rw (le_false (suc h) x.0 k) refl
 over_step {X} h (Some x) (Some y) o n p q =
-    elim (nat_le y.0 x.0) as (λ b. cond b (Some y) (Some x) ≡ option_or (cond b (Some y) (Some x)) (tagged (suc h) (option_or n o))) [ true ↦ refl | false ↦ refl ]
+    elim (nat_le y.0 x.0) as
+    (λ b. cond b (Some y) (Some x) ≡ option_or (cond b (Some y) (Some x)) (tagged (suc h) (option_or n o)))
+    [ true ↦ refl | false ↦ refl ]
 
-or_tagged : {X : Type 0} (m h : ℕ) (o : Option X) → option_map (λ v. (m, v)) o ≡ option_or (option_map (λ v. (m, v)) o) (tagged (suc h) None)
+or_tagged : {X : Type 0} (m h : ℕ) (o : Option X) → option_map (λ v. (m, v)) o ≡ option_or (option_map (λ v. (m, v)) o)
+    (tagged (suc h) None)
 or_tagged m h None = refl
 or_tagged m h (Some v) = refl
 
 -- an offer of at most a height is one of at most the height below, or one of exactly this height
 pub offer_step : {X : Type 0} (k : Bool) (m h : ℕ) (o : Option X)
-    → cond (k && nat_le m (suc h)) (option_map (λ v. (m, v)) o) None ≡ option_or (cond (k && nat_le m h) (option_map (λ v. (m, v)) o) None) (tagged (suc h) (cond (k && nat_eq m (suc h)) o None))
+    → cond (k && nat_le m (suc h)) (option_map (λ v. (m, v)) o) None
+    ≡ option_or (cond (k && nat_le m h) (option_map (λ v. (m, v)) o) None)
+    (tagged (suc h) (cond (k && nat_eq m (suc h)) o None))
 offer_step false m h o = refl
 offer_step true m h o = elim (cases_lt (suc h) m) [
   | inl above ↦
@@ -94,9 +103,11 @@ offer_step true m h o = elim (cases_lt (suc h) m) [
   ]
 ]
 
-pub offer_up_to : {X : Type 0} (k : Bool) (m h : ℕ) (o : Option X) → IsUpTo h (cond (k && nat_le m h) (option_map (λ v. (m, v)) o) None)
+pub offer_up_to : {X : Type 0} (k : Bool) (m h : ℕ) (o : Option X)
+    → IsUpTo h (cond (k && nat_le m h) (option_map (λ v. (m, v)) o) None)
 offer_up_to false m h o = tt
-offer_up_to {X} true m h None = elim (nat_le m h) as (λ b. IfSome {T = ℕ × X} (cond b None None) (λ x. x.0 ≤ h)) [ true ↦ tt | false ↦ tt ]
+offer_up_to {X} true m h None = elim (nat_le m h) as (λ b. IfSome {T = ℕ × X} (cond b None None) (λ x. x.0 ≤ h))
+    [ true ↦ tt | false ↦ tt ]
 offer_up_to true m h (Some v) = elim (cases_lt h m) [
   | inl above ↦ rw (le_false m h above) tt
   | inr below ↦ rw (le_true m h below) below

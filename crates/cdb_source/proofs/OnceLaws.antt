@@ -18,7 +18,8 @@ abbrev pub Once : List Tile → Type 0
 Once xs = (i j : ℕ) → i < length xs → slice_get xs i ≡ slice_get xs j → i ≡ j
 
 pub contains_at : (xs : List Tile) (k : ℕ) (x : Tile) → slice_get xs k ≡ Some x → Contains xs x
-contains_at xs k x e = subst (λ y. Contains xs y) (get_or_from_slice_get xs k x x e) (Contains-get_or xs k x (slice_get_within xs k x e))
+contains_at xs k x e = subst (λ y. Contains xs y) (get_or_from_slice_get xs k x x e)
+    (Contains-get_or xs k x (slice_get_within xs k x e))
 
 pub at_contains : (xs : List Tile) (x : Tile) → Contains xs x → (k : ℕ) × (slice_get xs k ≡ Some x)
 at_contains xs x c = (c.0, slice_get-get_or xs c.0 x c.1 ∙ ap Some c.2)
@@ -51,7 +52,8 @@ once_head x xs o c =
     let a = at_contains xs x c in
     let s : 0 ≡ suc a.0 = o 0 (suc a.0) (let l : 0 < suc (length xs) = omega arith in l) (sym a.1) in omega arith
 
-pub once_append : (xs ys : List Tile) → Once xs → Once ys → ((x : Tile) → Contains xs x → Contains ys x → ⊥) → Once (xs ++ ys)
+pub once_append : (xs ys : List Tile) → Once xs → Once ys → ((x : Tile) → Contains xs x → Contains ys x → ⊥)
+    → Once (xs ++ ys)
 once_append [] ys o p apart = p
 once_append (x ∷ xs) ys o p apart =
     once_cons x (xs ++ ys)
@@ -84,7 +86,8 @@ irreflexive : (t : Tile) → tile_cmp t t ≡ Less → ⊥
 irreflexive t e = let a = tile_cmp-total.antisymm t t in cc
 
 -- so no tile of an ascending list stands twice
-apart : (xs : List Tile) → AllPairs (λ s t. tile_cmp s t ≡ Less) xs → (i j : ℕ) → i < j → j < length xs → slice_get xs i ≡ slice_get xs j → ⊥
+apart : (xs : List Tile) → AllPairs (λ s t. tile_cmp s t ≡ Less) xs → (i j : ℕ) → i < j → j < length xs → slice_get xs i
+    ≡ slice_get xs j → ⊥
 apart xs up i j p lt e =
     elim (slice_get_cases xs j).1 [
       | inl c ↦
@@ -92,11 +95,13 @@ apart xs up i j p lt e =
           let at_j : get_or xs j x ≡ x = get_or_from_slice_get xs j x x c.2 in
           let at_i : get_or xs i x ≡ x = get_or_from_slice_get xs i x x (e ∙ c.2) in
           let less : tile_cmp (get_or xs i x) (get_or xs j x) ≡ Less = up i j x p lt in
-          irreflexive x (subst (λ t. tile_cmp x t ≡ Less) at_j (subst (λ t. tile_cmp t (get_or xs j x) ≡ Less) at_i less))
+          irreflexive x
+          (subst (λ t. tile_cmp x t ≡ Less) at_j (subst (λ t. tile_cmp t (get_or xs j x) ≡ Less) at_i less))
       | inr n ↦ let past = n.0 in absurd (omega arith)
     ]
 
-pub ascending_once : (xs : List Tile) → AllPairs (λ s t. tile_cmp s t ≡ Less) xs → (i j : ℕ) → i < length xs → slice_get xs i ≡ slice_get xs j → i ≡ j
+pub ascending_once : (xs : List Tile) → AllPairs (λ s t. tile_cmp s t ≡ Less) xs → (i j : ℕ) → i < length xs
+    → slice_get xs i ≡ slice_get xs j → i ≡ j
 ascending_once xs up i j lt e =
     elim (cases_lt i j) [
       | inl p ↦ elim (cases_lt j (length xs)) [
@@ -115,4 +120,5 @@ ascending_once xs up i j lt e =
     slice_get_within_some : (xs : List Tile) (i : ℕ) → i < length xs → (x : Tile) × (slice_get xs i ≡ Some x)
     slice_get_within_some [] i lt = let l : i < 0 = lt in absurd (omega arith)
     slice_get_within_some (x ∷ xs) zero lt = (x, refl)
-    slice_get_within_some (x ∷ xs) (suc i) lt = slice_get_within_some xs i (let l : suc i < suc (length xs) = lt in let m : i < length xs = omega arith in m)
+    slice_get_within_some (x ∷ xs) (suc i) lt = slice_get_within_some xs i (let l : suc i < suc (length xs) = lt in
+        let m : i < length xs = omega arith in m)

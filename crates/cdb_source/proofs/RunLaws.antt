@@ -17,7 +17,8 @@ one_number z rest h =
     let f = number_fits z h in
     ap (cast_signed w16) (from_be_bytes-to_be_bytes_2 (cast_unsigned w16 z) f.1) ∙ to_z-of_z w16 z f.0
 
-pub number_spelled : (kind : Kind) (posts : List ℤ) (k : ℕ) → All (IsPost kind) posts → k < length posts → number_from (posts_text posts) (2 * k) ≡ get_or posts k (pos 0)
+pub number_spelled : (kind : Kind) (posts : List ℤ) (k : ℕ) → All (IsPost kind) posts → k < length posts
+    → number_from (posts_text posts) (2 * k) ≡ get_or posts k (pos 0)
 number_spelled kind [] k all lt = absurd (omega arith)
 number_spelled kind (x ∷ xs) zero all lt = one_number x (posts_text xs) (any_number kind x (All-rest kind x xs all).0)
 number_spelled kind (x ∷ xs) (suc k) all lt =
@@ -28,17 +29,22 @@ number_spelled kind (x ∷ xs) (suc k) all lt =
 pub read_same : (kind : Kind) (z : ℤ) → IsPost kind z → read_as kind z ≡ z
 read_same Elevation z h = refl
 read_same Material (pos zero) h = refl
-read_same Material (pos (suc n)) h = let m : suc n ≤ 255 = let g = h.greatest in omega (arith, ints) in grind (arith, ints)
+read_same Material (pos (suc n)) h = let m : suc n ≤ 255 = let g = h.greatest in omega (arith, ints) in
+    grind (arith, ints)
 read_same Material (negsuc n) h = let g = h.least in absurd (omega (arith, ints))
 
-All-at : (kind : Kind) (posts : List ℤ) (k : ℕ) → All (IsPost kind) posts → k < length posts → IsPost kind (get_or posts k (pos 0))
+All-at : (kind : Kind) (posts : List ℤ) (k : ℕ) → All (IsPost kind) posts → k < length posts
+    → IsPost kind (get_or posts k (pos 0))
 All-at kind posts k all lt = all k (pos 0) lt
 
 -- posts read one by one are those that the bytes spell
 pub all_spelled : (kind : Kind) (bytes : List ℕ) (to posts : List ℤ) (n : ℕ) → length to ≡ n → length bytes ≡ 2 * n
-    → ((k : ℕ) → k < n → get_or to k (pos 0) ≡ read_as kind (number_from bytes (2 * k))) → All (IsPost kind) posts → bytes ≡ posts_text posts → to ≡ posts
+    → ((k : ℕ) → k < n → get_or to k (pos 0) ≡ read_as kind (number_from bytes (2 * k))) → All (IsPost kind) posts
+    → bytes ≡ posts_text posts → to ≡ posts
 all_spelled kind bytes to posts n size room each all e =
     let long : length bytes ≡ 2 * length posts = ap length e ∙ length-posts_text posts in
     ext_get_or (pos 0) to posts (omega arith) (λ k lt.
     let below : k < length posts = omega arith in
-    each k (omega arith) ∙ ap (λ b. read_as kind (number_from b (2 * k))) e ∙ ap (read_as kind) (number_spelled kind posts k all below) ∙ read_same kind (get_or posts k (pos 0)) (All-at kind posts k all below))
+    each k (omega arith) ∙ ap (λ b. read_as kind (number_from b (2 * k))) e
+    ∙ ap (read_as kind) (number_spelled kind posts k all below)
+    ∙ read_same kind (get_or posts k (pos 0)) (All-at kind posts k all below))

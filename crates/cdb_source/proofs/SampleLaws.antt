@@ -28,7 +28,8 @@ pub in_box : (head : SourceHead) (p : Place) → is_in_box head p ≡ true → I
 in_box head p t =
     let e = both _ (is_before head.kind p.east ((corner_of head).east + box_width head)) t in
     let w = both _ (nat_le (corner_of head).east p.east) e.0 in
-    let s = both (nat_le (corner_of head).north p.north) (is_before head.kind p.north ((corner_of head).north + box_height head)) w.0 in
+    let s = both (nat_le (corner_of head).north p.north)
+    (is_before head.kind p.north ((corner_of head).north + box_height head)) w.0 in
     record {
       south = le_of_true (corner_of head).north p.north s.0;
       north = before head.kind p.north ((corner_of head).north + box_height head) s.1;
@@ -76,7 +77,8 @@ floor-least (pos a) m h = let l = quotient_least a m h in omega (arith, ints)
 floor-least (negsuc a) m h = let l = quotient_most a m h in neg_least (m * suc (a / m)) a (rw (times_suc m (a / m)) l)
 
 floor-most : (x : ℤ) (m : ℕ) → 1 ≤ m → x <ℤ (pos m *ℤ (int_div_euclid x (pos m) +ℤ pos 1))
-floor-most (pos a) m h = let l = quotient_most a m h in let e : m * (a / m + 1) ≡ m * (a / m) + m = omega arith in omega (arith, ints)
+floor-most (pos a) m h = let l = quotient_most a m h in
+    let e : m * (a / m + 1) ≡ m * (a / m) + m = omega arith in omega (arith, ints)
 floor-most (negsuc a) m h =
     let l = quotient_least a m h in
     rw (one_more (a / m), times_neg m (a / m)) (neg_most (m * (a / m)) a l)

@@ -1,4 +1,5 @@
--- What a number of a frame becomes by the numbers of its four finer cells: south-west, south-east, north-west, north-east.
+-- What a number of a frame becomes by the numbers of its four finer cells: south-west, south-east, north-west,
+-- north-east.
 use Rattle.std.specs.Prelude.{ℤ}
 use Rattle.std.specs.Option.{option_or}
 use Rattle.cdb_source.specs.declared.kind.Kind.TheVariants.{Elevation, Material}
@@ -27,4 +28,6 @@ finer_high own sw se nw ne = greater_number own (greater_number (greater_number 
 -- a material: the most frequent one of the four, else its own
 abbrev pub finer_material : ℤ → ℤ → ℤ → ℤ → ℤ → ℤ
 finer_material own sw se nw ne =
-    coded Material (option_or (mode_of_four (value_of Material sw) (value_of Material se) (value_of Material nw) (value_of Material ne)) (value_of Material own))
+    coded Material
+    (option_or (mode_of_four (value_of Material sw) (value_of Material se) (value_of Material nw)
+    (value_of Material ne)) (value_of Material own))

@@ -6,7 +6,8 @@ use Rattle.cdb_source.specs.declared.kind.Kind.{Kind}
 use Rattle.cdb_source.specs.declared.head.SourceHead.{SourceHead}
 
 -- the head has these fields
-pub record HasFields (head : SourceHead) (kind : Kind) (level : Level) (lat lon dlat dlon : Arc) (rows cols : ℕ) : Type 0 where
+pub record HasFields (head : SourceHead) (kind : Kind) (level : Level) (lat lon dlat dlon : Arc)
+    (rows cols : ℕ) : Type 0 where
   pub kind_is : head.kind ≡ kind
   pub level_is : head.level ≡ level
   pub lat_is : head.lat ≡ lat

@@ -14,7 +14,8 @@ pub record HasElevation (ss : List Sampled) (h : ℕ) (p : Place) (i : ℕ) (s :
 -- it is the greatest by level, then by number, of all such sources; a finer level has a lesser height
 pub record IsBest (ss : List Sampled) (h : ℕ) (p : Place) (i : ℕ) (s : Sampled) (v : ℤ) : Type 0 where
   pub has : HasElevation ss h p i s v
-  pub greatest : (j : ℕ) (t : Sampled) (w : ℤ) → HasElevation ss h p j t w → (s.height < t.height) ⊎ ((s.height ≡ t.height) × (j ≤ i))
+  pub greatest : (j : ℕ) (t : Sampled) (w : ℤ) → HasElevation ss h p j t w
+      → (s.height < t.height) ⊎ ((s.height ≡ t.height) × (j ≤ i))
 
 -- the elevation is the value of the best source, and none where no source has one
 abbrev pub IsElevation : List Sampled → ℕ → Place → Option ℤ → Type 0
@@ -51,7 +52,8 @@ IsHigh ss h c r = IsGreatest (ValueIn ss h c) r
 -- the most frequent value of a list, and of equally frequent ones the smallest
 pub record IsModeAt (values : List ℤ) (v : ℤ) : Type 0 where
   pub there : Contains values v
-  pub greatest : (w : ℤ) → Contains values w → (count_of values w < count_of values v) ⊎ ((count_of values w ≡ count_of values v) × (v ≤ℤ w))
+  pub greatest : (w : ℤ) → Contains values w
+      → (count_of values w < count_of values v) ⊎ ((count_of values w ≡ count_of values v) × (v ≤ℤ w))
 
 abbrev pub IsMode : List ℤ → Option ℤ → Type 0
 IsMode values None = (v : ℤ) → Contains values v → ⊥

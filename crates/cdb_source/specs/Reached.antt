@@ -62,7 +62,8 @@ pub record IsReachCount (head : SourceHead) (count : ℕ) : Type 0 where
 -- the load of a list of sources: the sum over its sources of the number of tiles that each reaches by itself
 abbrev pub IsLoad : List SourceHead → ℕ → Type 0
 IsLoad [] load = load ≡ 0
-IsLoad (head ∷ heads) load = (count : ℕ) × (rest : ℕ) × (IsReachCount head count × IsLoad heads rest × (load ≡ count + rest))
+IsLoad (head ∷ heads) load = (count : ℕ) × (rest : ℕ)
+    × (IsReachCount head count × IsLoad heads rest × (load ≡ count + rest))
 
 -- the value of a family at a height and the corner of a cell
 abbrev pub family_value : Family → List Source → ℕ → Place → Option ℤ

@@ -58,12 +58,14 @@ value_of kind number = if int_eq number (none_of kind) then None else Some numbe
 -- the value of the post at a row from the south and a column from the west; past the last there is none
 abbrev pub post_at : Source → ℕ → ℕ → Option ℤ
 post_at s row col =
-    if nat_lt row s.head.rows && nat_lt col s.head.cols then option_and_then (value_of s.head.kind) (slice_get s.posts (row * s.head.cols + col))
+    if nat_lt row s.head.rows && nat_lt col s.head.cols then option_and_then (value_of s.head.kind)
+    (slice_get s.posts (row * s.head.cols + col))
     else None
 
 -- a sum with one post more, so many times; a post of weight zero isn't looked at
 abbrev pub plus : ℕ → Option ℤ → Option ℤ → Option ℤ
-plus weight post sum = if nat_eq weight 0 then sum else option_and_then (λ n. option_map (λ v. n +ℤ pos weight *ℤ v) post) sum
+plus weight post sum = if nat_eq weight 0 then sum
+    else option_and_then (λ n. option_map (λ v. n +ℤ pos weight *ℤ v) post) sum
 
 -- the sum of the four posts around a point, each as often as its weight says, where up and right are the point's
 -- distances to the first row and the first column
@@ -83,11 +85,13 @@ rounded d n = int_div_euclid (pos 2 *ℤ n +ℤ pos d) (pos (2 * d))
 abbrev pub mean_at : Source → Place → Option ℤ
 mean_at s p =
     option_map (rounded (row_step s.head * column_step s.head))
-    (weighted_sum (post_at s) (row_step s.head) (column_step s.head) (p.north - (corner_of s.head).north) (p.east - (corner_of s.head).east))
+    (weighted_sum (post_at s) (row_step s.head) (column_step s.head) (p.north - (corner_of s.head).north)
+    (p.east - (corner_of s.head).east))
 
 -- the value of the cell that holds a place of the box
 abbrev pub covering_at : Source → Place → Option ℤ
-covering_at s p = post_at s ((p.north - (corner_of s.head).north) / row_step s.head) ((p.east - (corner_of s.head).east) / column_step s.head)
+covering_at s p = post_at s ((p.north - (corner_of s.head).north) / row_step s.head)
+    ((p.east - (corner_of s.head).east) / column_step s.head)
 
 -- what a source has at a place of its box, by its kind: the mean of four posts, or for material the value of the cell
 abbrev pub value_in : Kind → Source → Place → Option ℤ

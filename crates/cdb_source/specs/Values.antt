@@ -58,14 +58,16 @@ unfoldable pub low : List Sampled → ℕ → Place → Option ℤ
 low ss zero c = None
 low ss (suc h) c =
     lesser (elevation ss (suc h) c)
-    (lesser (lesser (low ss h (beside h c 0 0)) (low ss h (beside h c 0 1))) (lesser (low ss h (beside h c 1 0)) (low ss h (beside h c 1 1))))
+    (lesser (lesser (low ss h (beside h c 0 0)) (low ss h (beside h c 0 1)))
+    (lesser (low ss h (beside h c 1 0)) (low ss h (beside h c 1 1))))
 
 -- the greatest elevation of a cell
 unfoldable pub high : List Sampled → ℕ → Place → Option ℤ
 high ss zero c = None
 high ss (suc h) c =
     greater (elevation ss (suc h) c)
-    (greater (greater (high ss h (beside h c 0 0)) (high ss h (beside h c 0 1))) (greater (high ss h (beside h c 1 0)) (high ss h (beside h c 1 1))))
+    (greater (greater (high ss h (beside h c 0 0)) (high ss h (beside h c 0 1)))
+    (greater (high ss h (beside h c 1 0)) (high ss h (beside h c 1 1))))
 
 -- how often a value stands in a list
 abbrev pub count_of : List ℤ → ℤ → ℕ
@@ -74,7 +76,8 @@ count_of values v = count_by (λ x. int_eq x v) values
 -- the one of two values that is more frequent, and of equally frequent ones the smaller
 abbrev pub oftener : List ℤ → ℤ → ℤ → ℤ
 oftener values v w =
-    if nat_lt (count_of values v) (count_of values w) || (nat_eq (count_of values v) (count_of values w) && int_lt w v) then w else v
+    if nat_lt (count_of values v) (count_of values w) || (nat_eq (count_of values v) (count_of values w) && int_lt w v)
+    then w else v
 
 -- the most frequent value of a list, and of equally frequent ones the smallest
 unfoldable pub mode : List ℤ → Option ℤ
@@ -89,7 +92,9 @@ mode_of_four a b c d = mode (filter_map (λ v. v) (a ∷ b ∷ c ∷ d ∷ []))
 unfoldable pub material : List Sampled → ℕ → Place → Option ℤ
 material ss zero c = None
 material ss (suc h) c =
-    option_or (mode_of_four (material ss h (beside h c 0 0)) (material ss h (beside h c 0 1)) (material ss h (beside h c 1 0)) (material ss h (beside h c 1 1)))
+    option_or
+    (mode_of_four (material ss h (beside h c 0 0)) (material ss h (beside h c 0 1)) (material ss h (beside h c 1 0))
+    (material ss h (beside h c 1 1)))
     (newest_own Material ss (suc h) (centre (suc h) c))
 
 -- the values of a list of sources at a height and a place of that height

@@ -91,6 +91,7 @@ pub fn source_has_none()
 /// The file of a source has 52 bytes, and two for each post: at most 33,554,484.
 pub fn source_file_length()
     ensures front { (head : heads.SourceHead) → length (source_front_text head) ≡ SOURCE_FRONT_BYTES }
-    ensures whole { (s : sources.Source) → length (source_text s) ≡ SOURCE_FRONT_BYTES + 2 * (s.head.rows * s.head.cols) }
+    ensures whole { (s : sources.Source)
+        → length (source_text s) ≡ SOURCE_FRONT_BYTES + 2 * (s.head.rows * s.head.cols) }
     ensures most { (s : sources.Source) → length (source_text s) ≤ 33554484 }
 {}

@@ -83,12 +83,14 @@ pub offset_is : (side : ℕ) (rest : Bytes) → strip_offset (written_head side 
 unfolding strip_offset value_or tag_entry entry order_of directory entry_count entries entry_value written_head
 offset_is side rest = refl
 
-pub byte_count_is : (side : ℕ) (rest : Bytes) → side * side * 2 < 2 ^ 32 → strip_byte_count (written_head side 16 ++ rest) 0 ≡ side * side * 2
+pub byte_count_is : (side : ℕ) (rest : Bytes) → side * side * 2 < 2 ^ 32
+    → strip_byte_count (written_head side 16 ++ rest) 0 ≡ side * side * 2
 unfolding strip_byte_count value_or tag_entry entry order_of directory entry_count entries entry_value written_head
 byte_count_is side rest lt = little_number-reads_back 4 (side * side * 2) [] lt
 
 -- the rows of the table that the head alone decides
-pub tiff : (side : ℕ) (rest : Bytes) → (is_tiff (written_head side 16 ++ rest) || is_big_tiff (written_head side 16 ++ rest)) ≡ true
+pub tiff : (side : ℕ) (rest : Bytes)
+    → (is_tiff (written_head side 16 ++ rest) || is_big_tiff (written_head side 16 ++ rest)) ≡ true
 unfolding written_head
 tiff side rest = refl
 
@@ -113,17 +115,21 @@ unfolding absent tag_entry entry order_of directory entry_count entries written_
 none_absent side rest = refl
 
 pub not_compressed : (side : ℕ) (rest : Bytes) → compressed (written_head side 16 ++ rest) ≡ None
-unfolding compressed compression value_or tag_entry entry order_of directory entry_count entries entry_value written_head
+unfolding compressed compression value_or tag_entry entry order_of directory entry_count entries
+    entry_value written_head
 not_compressed side rest = refl
 
 pub one_sample : (side : ℕ) (rest : Bytes) → several_samples (written_head side 16 ++ rest) ≡ None
-unfolding several_samples samples_per_pixel value_or tag_entry entry order_of directory entry_count entries entry_value written_head
+unfolding several_samples samples_per_pixel value_or tag_entry entry order_of directory entry_count entries
+    entry_value written_head
 one_sample side rest = refl
 
 pub not_floating : (side : ℕ) (rest : Bytes) → floating (written_head side 16 ++ rest) ≡ None
-unfolding floating sample_format value_or tag_entry entry order_of directory entry_count entries entry_value written_head
+unfolding floating sample_format value_or tag_entry entry order_of directory entry_count entries
+    entry_value written_head
 not_floating side rest = refl
 
 pub bits_good : (side : ℕ) (rest : Bytes) → bad_bits (written_head side 16 ++ rest) ≡ None
-unfolding bad_bits bits_per_sample sample_format fill_order value_or tag_entry entry order_of directory entry_count entries entry_value written_head
+unfolding bad_bits bits_per_sample sample_format fill_order value_or tag_entry entry order_of directory entry_count
+    entries entry_value written_head
 bits_good side rest = refl

@@ -31,7 +31,8 @@ directory_good b long at count =
 square : (side : ℕ) → side ≤ 1024 → side * side ≤ 1048576
 square side most = mul-le-mul most most
 
-size_good : (b : Bytes) (side : ℕ) → 0 < side → side ≤ 1024 → image_width b ≡ side → image_length b ≡ side → bad_size b ≡ None
+size_good : (b : Bytes) (side : ℕ) → 0 < side → side ≤ 1024 → image_width b ≡ side → image_length b ≡ side
+    → bad_size b ≡ None
 unfolding bad_size
 size_good b side some most w l =
     let all = square side most in
@@ -45,11 +46,14 @@ one_strip : (b : Bytes) (side : ℕ) → 0 < side → image_length b ≡ side �
 unfolding strips
 one_strip b side some l rows = rw (l, rows, div_self some, mod_self) refl
 
-whole_need : (b : Bytes) (side : ℕ) → image_width b ≡ side → image_length b ≡ side → rows_per_strip b ≡ side → bits_per_sample b ≡ 16 → need b 0 ≡ side * side * 2
+whole_need : (b : Bytes) (side : ℕ) → image_width b ≡ side → image_length b ≡ side → rows_per_strip b ≡ side
+    → bits_per_sample b ≡ 16 → need b 0 ≡ side * side * 2
 unfolding need strip_rows
-whole_need b side w l rows bits = let all : min side (side - 0 * side) ≡ side = omega arith in rw (w, l, rows, bits, all) refl
+whole_need b side w l rows bits = let all : min side (side - 0 * side) ≡ side = omega arith in
+    rw (w, l, rows, bits, all) refl
 
-strips_good : (b : Bytes) (side : ℕ) → 0 < side → rows_per_strip b ≡ side → count_of_entry b 273 ≡ 1 → count_of_entry b 279 ≡ 1 → strips b ≡ 1 → strip_byte_count b 0 ≡ need b 0 → bad_strips b ≡ None
+strips_good : (b : Bytes) (side : ℕ) → 0 < side → rows_per_strip b ≡ side → count_of_entry b 273 ≡ 1
+    → count_of_entry b 279 ≡ 1 → strips b ≡ 1 → strip_byte_count b 0 ≡ need b 0 → bad_strips b ≡ None
 unfolding bad_strips lacks_bytes first_from
 strips_good b side some rows offsets counts one bytes =
     let t1 : (side == 0) ≡ false = grind (arith, nat_tests) in
@@ -58,14 +62,16 @@ strips_good b side some rows offsets counts one bytes =
 
 ends_good : (b : Bytes) → strips b ≡ 1 → strip_offset b 0 + need b 0 ≤ length b → is_cut_short b ≡ None
 unfolding is_cut_short first_from
-ends_good b one within = let t : nat_lt (length b) (strip_offset b 0 + need b 0) ≡ false = grind (arith, nat_tests) in rw (one, t) refl
+ends_good b one within = let t : nat_lt (length b) (strip_offset b 0 + need b 0) ≡ false = grind (arith, nat_tests) in
+    rw (one, t) refl
 
 -- the bytes of a raster
 raster_length : (values : List ℤ) → length (written_raster values) ≡ length values * 2
 raster_length [] = refl
 raster_length (v ∷ values) = let more = raster_length values in omega (arith, more)
 
-raster_value : (values : List ℤ) (i : ℕ) (d : ℤ) → All (FitsSigned w16) values → i < length values → cast_signed w16 (little_number 2 (drop (i * 2) (written_raster values))) ≡ slice_index_or values i d
+raster_value : (values : List ℤ) (i : ℕ) (d : ℤ) → All (FitsSigned w16) values → i < length values
+    → cast_signed w16 (little_number 2 (drop (i * 2) (written_raster values))) ≡ slice_index_or values i d
 raster_value [] i d fit below = absurd (omega arith)
 raster_value (v ∷ values) zero d fit below =
     let fits : FitsSigned w16 v = fit 0 d below in
@@ -77,10 +83,17 @@ raster_value (v ∷ values) (suc i) d fit below =
     let rest : All (FitsSigned w16) values = λ k e h. fit (suc k) e (omega arith) in
     rw two (raster_value values i d rest lt)
 
-tile_length : (side : ℕ) (values : List ℤ) → IsShortRaster side values → length (written_tile side values) ≡ 186 + side * side * 2
+tile_length : (side : ℕ) (values : List ℤ) → IsShortRaster side values → length (written_tile side values)
+    ≡ 186 + side * side * 2
 tile_length side values is =
     let count = is.count in
-    omega (arith, length-append (written_head side 16) (written_raster values), head_length side, raster_length values, ap (λ (n : ℕ). n * 2) count)
+    omega (
+      arith,
+      length-append (written_head side 16) (written_raster values),
+      head_length side,
+      raster_length values,
+      ap (λ (n : ℕ). n * 2) count,
+    )
 
 pub accepted : (side : ℕ) (values : List ℤ) → IsShortRaster side values → cause_of (written_tile side values) ≡ None
 unfolding cause_of
@@ -104,9 +117,25 @@ accepted side values is =
     let r12 = size_good b side some most w l in
     let r13 = strips_good b side some rows (offsets_are side rest) (byte_counts_are side rest) one (has ∙ sym needs) in
     let r14 = ends_good b one (omega (arith, long, needs, offset_is side rest)) in
-    rw (r1, not_big side rest, r3, in_order side rest, kinds_good side rest, not_tiled side rest, none_absent side rest, not_compressed side rest, one_sample side rest, not_floating side rest, bits_good side rest, r12, r13, r14) refl
+    rw (
+      r1,
+      not_big side rest,
+      r3,
+      in_order side rest,
+      kinds_good side rest,
+      not_tiled side rest,
+      none_absent side rest,
+      not_compressed side rest,
+      one_sample side rest,
+      not_floating side rest,
+      bits_good side rest,
+      r12,
+      r13,
+      r14,
+    ) refl
 
-pub pixel_is : (side : ℕ) (values : List ℤ) (r c : ℕ) → IsShortRaster side values → r < side → c < side → pixel (written_tile side values) r c ≡ slice_index_or values (r * side + c) (pos 0)
+pub pixel_is : (side : ℕ) (values : List ℤ) (r c : ℕ) → IsShortRaster side values → r < side → c < side
+    → pixel (written_tile side values) r c ≡ slice_index_or values (r * side + c) (pos 0)
 unfolding pixel row_place sample
 pixel_is side values r c is row column =
     let rest : Bytes = written_raster values in
@@ -116,7 +145,17 @@ pixel_is side values r c is row column =
     let below : r * side + c < length values = omega (arith, whole, is.count) in
     let first = div-eq_of_lt row in
     let same = mod-eq_of_lt row in
-    let place : 186 + r * side * 2 + c * 2 ≡ length (written_head side 16) + (r * side + c) * 2 = omega (arith, head_length side) in
+    let place : 186 + r * side * 2 + c * 2 ≡ length (written_head side 16) + (r * side + c) * 2 =
+    omega (arith, head_length side) in
     let behind = drop-append-add (written_head side 16) rest ((r * side + c) * 2) in
-    rw (order_is side rest, bits_are side rest, format_is side rest, rows_per_strip_are side rest small, width_is side rest small, first, same, offset_is side rest)
+    rw (
+      order_is side rest,
+      bits_are side rest,
+      format_is side rest,
+      rows_per_strip_are side rest small,
+      width_is side rest small,
+      first,
+      same,
+      offset_is side rest,
+    )
     (rw (place, behind) (raster_value values (r * side + c) (pos 0) is.fit below))

@@ -46,7 +46,9 @@ big_tiff b = applies (is_big_tiff b) cause.BigTiff 2
 
 -- row 3: the number of entries, the entries and the place of the next directory aren't whole
 unfoldable pub bad_directory : Bytes → Row
-bad_directory b = applies (nat_lt (length b) (directory b + 2) || nat_lt (length b) (directory b + 2 + 12 * entry_count b + 4)) cause.Directory 4
+bad_directory b =
+    applies (nat_lt (length b) (directory b + 2) || nat_lt (length b) (directory b + 2 + 12 * entry_count b + 4))
+    cause.Directory 4
 
 -- each entry but the last, with the entry after it
 abbrev pub neighbours : List Entry → List (Entry × Entry)
@@ -54,7 +56,8 @@ neighbours es = zip es (drop 1 es)
 
 -- the first entry whose tag isn't above the tag of the entry before
 unfoldable pub unordered : List Entry → Option Entry
-unordered es = option_map (λ (p : Entry × Entry). p.1) (find (λ (p : Entry × Entry). nat_le p.1.tag p.0.tag) (neighbours es))
+unordered es = option_map (λ (p : Entry × Entry). p.1)
+    (find (λ (p : Entry × Entry). nat_le p.1.tag p.0.tag) (neighbours es))
 
 -- row 4: the first such entry
 unfoldable pub bad_order : Bytes → Row
@@ -82,7 +85,8 @@ tiled b = at_entry cause.Tiled (find (λ (e : Entry). is_tile_tag e.tag) (entrie
 
 -- row 7: the least of the tags without a default that isn't there
 unfoldable pub absent : Bytes → Row
-absent b = option_map (λ tag. record { cause = cause.Absent tag; at = directory b }) (find (λ tag. is_none (tag_entry b tag)) (256 ∷ 257 ∷ 273 ∷ 279 ∷ []))
+absent b = option_map (λ tag. record { cause = cause.Absent tag; at = directory b })
+    (find (λ tag. is_none (tag_entry b tag)) (256 ∷ 257 ∷ 273 ∷ 279 ∷ []))
 
 -- row 8
 unfoldable pub compressed : Bytes → Row
@@ -119,11 +123,16 @@ lacks_bytes b = is_some (first_below (λ k. nat_lt (strip_byte_count b k) (need 
 -- row 13: no rows in a strip, another number of offsets or of byte counts than of strips, or a strip
 -- with too few bytes
 unfoldable pub bad_strips : Bytes → Row
-bad_strips b = at_tag b (rows_per_strip b == 0 || (not (count_of_entry b 273 == strips b) || (not (count_of_entry b 279 == strips b) || lacks_bytes b))) cause.Strips 273
+bad_strips b =
+    at_tag b
+    (rows_per_strip b == 0
+    || (not (count_of_entry b 273 == strips b) || (not (count_of_entry b 279 == strips b) || lacks_bytes b)))
+    cause.Strips 273
 
 -- row 14: a strip's offset and need pass the end of the file; the place is the first such offset
 unfoldable pub is_cut_short : Bytes → Row
-is_cut_short b = option_map (λ k. record { cause = cause.Short; at = strip_offset b k }) (first_below (λ k. nat_lt (length b) (strip_offset b k + need b k)) (strips b))
+is_cut_short b = option_map (λ k. record { cause = cause.Short; at = strip_offset b k })
+    (first_below (λ k. nat_lt (length b) (strip_offset b k + need b k)) (strips b))
 
 -- the table of causes, in its order
 abbrev pub table : Bytes → List Row

@@ -33,7 +33,8 @@ tag_entry b tag = find (λ (e : Entry). e.tag == tag) (entries b)
 
 -- the value at an index of the entry of a tag, or what stands in its place where there is none
 unfoldable pub value_or : Bytes → ℕ → ℕ → ℕ → ℕ
-value_or b tag index otherwise = unwrap_or (option_and_then (λ e. entry_value (order_of b) b e index) (tag_entry b tag)) otherwise
+value_or b tag index otherwise =
+    unwrap_or (option_and_then (λ e. entry_value (order_of b) b e index) (tag_entry b tag)) otherwise
 
 -- the number of values of the entry of a tag
 unfoldable pub count_of_entry : Bytes → ℕ → ℕ

@@ -30,10 +30,12 @@ values order b e = if nat_le (size_of_values e) 4 then e.field else drop (number
 -- the value at an index: its type is read, the entry has more values than the index, and it is whole
 unfoldable pub entry_value : Order → Bytes → Entry → ℕ → Option ℕ
 entry_value order b e i =
-    if (nat_lt 0 (type_size e.kind) && nat_lt i e.count) && nat_le (i * type_size e.kind + type_size e.kind) (length (values order b e))
+    if (nat_lt 0 (type_size e.kind) && nat_lt i e.count) && nat_le (i * type_size e.kind + type_size e.kind)
+    (length (values order b e))
     then Some (number order (type_size e.kind) (drop (i * type_size e.kind) (values order b e)))
     else None
 
 -- the entry's type is read, it has a value, and all of its values are whole in the file
 unfoldable pub is_sound : Order → Bytes → Entry → Bool
-is_sound order b e = (nat_lt 0 (type_size e.kind) && nat_lt 0 e.count) && nat_le (size_of_values e) (length (values order b e))
+is_sound order b e = (nat_lt 0 (type_size e.kind) && nat_lt 0 e.count) && nat_le (size_of_values e)
+    (length (values order b e))

@@ -21,4 +21,5 @@ row_place b r = strip_offset b (r / rows_per_strip b) + (r % rows_per_strip b) *
 
 -- the pixel of row r, from the top, and column c, from the left
 unfoldable pub pixel : Bytes → ℕ → ℕ → ℤ
-pixel b r c = sample (order_of b) (bits_per_sample b) (sample_format b == 2) (drop (row_place b r + c * (bits_per_sample b / 8)) b)
+pixel b r c = sample (order_of b) (bits_per_sample b) (sample_format b == 2)
+    (drop (row_place b r + c * (bits_per_sample b / 8)) b)

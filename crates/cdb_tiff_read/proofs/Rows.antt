@@ -63,11 +63,13 @@ unfolding is_cut_short
 strip_ends b k none lt =
     let test : ℕ → Bool = λ k. nat_lt (length b) (strip_offset b k + need b k) in
     let found : first_below test (strips b) ≡ None = map_none _ _ none in
-    let fails : nat_lt (length b) (strip_offset b k + need b k) ≡ false = rw zero-add at (none_found test (strips b) 0 k found lt) in
+    let fails : nat_lt (length b) (strip_offset b k + need b k) ≡ false =
+    rw zero-add at (none_found test (strips b) 0 k found lt) in
     grind (arith, nat_tests, fails)
 
 -- each row of an accepted file ends within it
-pub row_whole : (b : Bytes) (e : Entry) (r : ℕ) → cause_of b ≡ None → tag_entry b 273 ≡ Some e → r < image_length b → row_place b r + image_width b * (bits_per_sample b / 8) ≤ length b
+pub row_whole : (b : Bytes) (e : Entry) (r : ℕ) → cause_of b ≡ None → tag_entry b 273 ≡ Some e → r < image_length b
+    → row_place b r + image_width b * (bits_per_sample b / 8) ≤ length b
 unfolding row_place need strip_rows strips
 row_whole b e r ok there lt =
     let rows = accepted b ok in
@@ -80,10 +82,15 @@ row_whole b e r ok there lt =
 
 -- the same of an image that was opened
 pub opened_rows : (b : Bytes) (image : Image) → IsOpened b image → 0 < image.rows_per_strip
-opened_rows b image o = rw o.fields.rows_per_strip (some_rows b image.offsets (accepted b o.accepted).0 o.fields.offsets)
+opened_rows b image o =
+    rw o.fields.rows_per_strip (some_rows b image.offsets (accepted b o.accepted).0 o.fields.offsets)
 
-pub opened_whole : (b : Bytes) (image : Image) (r : ℕ) → IsOpened b image → r < image.length → strip_offset b (r / image.rows_per_strip) + r % image.rows_per_strip * image.width * (image.bits / 8) + image.width * (image.bits / 8) ≤ length b
+pub opened_whole : (b : Bytes) (image : Image) (r : ℕ) → IsOpened b image → r < image.length
+    → strip_offset b
+    (r / image.rows_per_strip) + r % image.rows_per_strip * image.width * (image.bits / 8)
+    + image.width * (image.bits / 8) ≤ length b
 unfolding row_place
 opened_whole b image r o lt =
     let below : r < image_length b = rw o.fields.length at lt in
-    rw (o.fields.rows_per_strip, o.fields.width, o.fields.bits) (row_whole b image.offsets r o.accepted o.fields.offsets below)
+    rw (o.fields.rows_per_strip, o.fields.width, o.fields.bits)
+    (row_whole b image.offsets r o.accepted o.fields.offsets below)

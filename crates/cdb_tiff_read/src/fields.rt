@@ -155,7 +155,8 @@ pub fn check_size(bytes: &[u8], d: Directory) -> Result<(), TiffError>
 pub fn image_of(bytes: &[u8], d: Directory) -> Image
     requires directory { IsDirectory bytes.now d }
     requires offsets { IsSome (tag_entry bytes.now STRIP_OFFSETS) }
-    requires readable { IsTrue (is_readable (bits_per_sample bytes.now) (sample_format bytes.now) (fill_order bytes.now)) }
+    requires readable { IsTrue
+        (is_readable (bits_per_sample bytes.now) (sample_format bytes.now) (fill_order bytes.now)) }
     requires size { IsTrue (is_size (image_width bytes.now) (image_length bytes.now)) }
     ensures { HasTagFields bytes.now result }
 {

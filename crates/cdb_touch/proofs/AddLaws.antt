@@ -26,7 +26,8 @@ Adds-one xs x = record { each = λ t. (λ c. Contains-push_cases xs x t c, put t
     put t (inl c) = Contains-append_left xs (x ∷ []) t c
     put t (inr e) = subst (λ u. Contains (xs ++ x ∷ []) u) e (Contains-push xs x)
 
-pub Adds-then : (A B M : Tile → Type 0) (xs ys zs : List Tile) → AddsTiles A xs ys → AddsTiles B ys zs → ((t : Tile) → (A t ⊎ B t) ↔ M t) → AddsTiles M xs zs
+pub Adds-then : (A B M : Tile → Type 0) (xs ys zs : List Tile) → AddsTiles A xs ys → AddsTiles B ys zs
+    → ((t : Tile) → (A t ⊎ B t) ↔ M t) → AddsTiles M xs zs
 Adds-then A B M xs ys zs a b same = record { each = λ t. (λ c. split t ((b.each t).0 c), join t) }
   where
     first : (t : Tile) → Contains xs t ⊎ A t → Contains xs t ⊎ M t
@@ -45,7 +46,8 @@ Adds-then A B M xs ys zs a b same = record { each = λ t. (λ c. split t ((b.eac
     join t (inl c) = (b.each t).1 (inl ((a.each t).1 (inl c)))
     join t (inr m) = part t ((same t).1 m)
 
-pub Adds-iff : (A B : Tile → Type 0) (xs ys : List Tile) → ((t : Tile) → A t ↔ B t) → AddsTiles A xs ys → AddsTiles B xs ys
+pub Adds-iff : (A B : Tile → Type 0) (xs ys : List Tile) → ((t : Tile) → A t ↔ B t) → AddsTiles A xs ys
+    → AddsTiles B xs ys
 Adds-iff A B xs ys same a = record { each = λ t. (λ c. to t ((a.each t).0 c), λ s. (a.each t).1 (from t s)) }
   where
     to : (t : Tile) → Contains xs t ⊎ A t → Contains xs t ⊎ B t
@@ -57,59 +59,155 @@ Adds-iff A B xs ys same a = record { each = λ t. (λ c. to t ((a.each t).0 c), 
     from t (inr m) = inr ((same t).1 m)
 
 -- one tile more in a row
-pub one_column_more : (f : Family) (h y x : ℕ) (columns : Run) (tile t : Tile) → IsNumbered f h y x tile → columns.first ≤ x
+pub one_column_more : (f : Family) (h y x : ℕ) (columns : Run) (tile t : Tile) → IsNumbered f h y x tile
+    → columns.first ≤ x
     → (IsInRow f h y (record columns { end = x }) t ⊎ (tile ≡ t)) ↔ IsInRow f h y (record columns { end = x + 1 }) t
 one_column_more f h y x columns tile t n from = (put, split)
   where
     itself : IsInRow f h y (record columns { end = x + 1 }) tile
-    itself = let e = n.column_is in record { family_is = n.family_is; height_is = n.height_is; row_is = n.row_is; column_from = omega arith; column_below = omega arith }
+    itself = let e = n.column_is in
+        record {
+          family_is = n.family_is;
+          height_is = n.height_is;
+          row_is = n.row_is;
+          column_from = omega arith;
+          column_below = omega arith;
+        }
 
     put : IsInRow f h y (record columns { end = x }) t ⊎ (tile ≡ t) → IsInRow f h y (record columns { end = x + 1 }) t
-    put (inl i) = let a = i.column_below in record { family_is = i.family_is; height_is = i.height_is; row_is = i.row_is; column_from = i.column_from; column_below = omega arith }
+    put (inl i) = let a = i.column_below in
+        record {
+          family_is = i.family_is;
+          height_is = i.height_is;
+          row_is = i.row_is;
+          column_from = i.column_from;
+          column_below = omega arith;
+        }
     put (inr e) = subst (λ u. IsInRow f h y (record columns { end = x + 1 }) u) e itself
 
     split : IsInRow f h y (record columns { end = x + 1 }) t → IsInRow f h y (record columns { end = x }) t ⊎ (tile ≡ t)
     split i = let a = i.column_below in elim (cases_lt (column_number t) x) [
-      | inl p ↦ inl (record { family_is = i.family_is; height_is = i.height_is; row_is = i.row_is; column_from = i.column_from; column_below = p })
-      | inr p ↦ inr (numbered-only f h y x tile t n (record { family_is = i.family_is; height_is = i.height_is; row_is = i.row_is; column_is = omega arith }))
+      | inl p ↦
+          inl (record {
+            family_is = i.family_is;
+            height_is = i.height_is;
+            row_is = i.row_is;
+            column_from = i.column_from;
+            column_below = p;
+          })
+      | inr p ↦
+          inr (numbered-only f h y x tile t n
+          (record { family_is = i.family_is; height_is = i.height_is; row_is = i.row_is; column_is = omega arith }))
     ]
 
-pub no_column : (f : Family) (h y : ℕ) (columns : Run) (t : Tile) → IsInRow f h y (record columns { end = columns.first }) t → ⊥
+pub no_column : (f : Family) (h y : ℕ) (columns : Run) (t : Tile)
+    → IsInRow f h y (record columns { end = columns.first }) t → ⊥
 no_column f h y columns t i = let a = i.column_from in let b = i.column_below in omega arith
 
-pub all_columns : (f : Family) (h y x : ℕ) (columns : Run) (t : Tile) → x ≤ max columns.first columns.end → columns.end ≤ x
+pub all_columns : (f : Family) (h y x : ℕ) (columns : Run) (t : Tile) → x ≤ max columns.first columns.end
+    → columns.end ≤ x
     → IsInRow f h y (record columns { end = x }) t ↔ IsInRow f h y columns t
 all_columns f h y x columns t most past = (
-  (λ i. let a = i.column_from in let b = i.column_below in record { family_is = i.family_is; height_is = i.height_is; row_is = i.row_is; column_from = i.column_from; column_below = omega arith }),
-  (λ i. let a = i.column_from in let b = i.column_below in record { family_is = i.family_is; height_is = i.height_is; row_is = i.row_is; column_from = i.column_from; column_below = omega arith }),
+  (λ i. let a = i.column_from in
+      let b = i.column_below in
+      record {
+        family_is = i.family_is;
+        height_is = i.height_is;
+        row_is = i.row_is;
+        column_from = i.column_from;
+        column_below = omega arith;
+      }),
+  (λ i. let a = i.column_from in
+      let b = i.column_below in
+      record {
+        family_is = i.family_is;
+        height_is = i.height_is;
+        row_is = i.row_is;
+        column_from = i.column_from;
+        column_below = omega arith;
+      }),
 )
 
 -- one row more in a rectangle
 pub one_row_added : (f : Family) (h y : ℕ) (rows columns : Run) (t : Tile) → rows.first ≤ y
-    → (IsInRectangle f h (record rows { end = y }) columns t ⊎ IsInRow f h y columns t) ↔ IsInRectangle f h (record rows { end = y + 1 }) columns t
+    → (IsInRectangle f h (record rows { end = y }) columns t ⊎ IsInRow f h y columns t)
+    ↔ IsInRectangle f h (record rows { end = y + 1 }) columns t
 one_row_added f h y rows columns t from = (put, split)
   where
-    put : IsInRectangle f h (record rows { end = y }) columns t ⊎ IsInRow f h y columns t → IsInRectangle f h (record rows { end = y + 1 }) columns t
-    put (inl i) = let a = i.row_below in record { family_is = i.family_is; height_is = i.height_is; row_from = i.row_from; row_below = omega arith; column_from = i.column_from; column_below = i.column_below }
-    put (inr i) = let a = i.row_is in record { family_is = i.family_is; height_is = i.height_is; row_from = omega arith; row_below = omega arith; column_from = i.column_from; column_below = i.column_below }
+    put : IsInRectangle f h (record rows { end = y }) columns t ⊎ IsInRow f h y columns t
+        → IsInRectangle f h (record rows { end = y + 1 }) columns t
+    put (inl i) = let a = i.row_below in
+        record {
+          family_is = i.family_is;
+          height_is = i.height_is;
+          row_from = i.row_from;
+          row_below = omega arith;
+          column_from = i.column_from;
+          column_below = i.column_below;
+        }
+    put (inr i) = let a = i.row_is in
+        record {
+          family_is = i.family_is;
+          height_is = i.height_is;
+          row_from = omega arith;
+          row_below = omega arith;
+          column_from = i.column_from;
+          column_below = i.column_below;
+        }
 
-    split : IsInRectangle f h (record rows { end = y + 1 }) columns t → IsInRectangle f h (record rows { end = y }) columns t ⊎ IsInRow f h y columns t
+    split : IsInRectangle f h (record rows { end = y + 1 }) columns t
+        → IsInRectangle f h (record rows { end = y }) columns t ⊎ IsInRow f h y columns t
     split i = let a = i.row_below in elim (cases_lt (row_number t) y) [
-      | inl p ↦ inl (record { family_is = i.family_is; height_is = i.height_is; row_from = i.row_from; row_below = p; column_from = i.column_from; column_below = i.column_below })
-      | inr p ↦ inr (record { family_is = i.family_is; height_is = i.height_is; row_is = omega arith; column_from = i.column_from; column_below = i.column_below })
+      | inl p ↦
+          inl (record {
+            family_is = i.family_is;
+            height_is = i.height_is;
+            row_from = i.row_from;
+            row_below = p;
+            column_from = i.column_from;
+            column_below = i.column_below;
+          })
+      | inr p ↦
+          inr (record {
+            family_is = i.family_is;
+            height_is = i.height_is;
+            row_is = omega arith;
+            column_from = i.column_from;
+            column_below = i.column_below;
+          })
     ]
 
-pub no_row_added : (f : Family) (h : ℕ) (rows columns : Run) (t : Tile) → IsInRectangle f h (record rows { end = rows.first }) columns t → ⊥
+pub no_row_added : (f : Family) (h : ℕ) (rows columns : Run) (t : Tile)
+    → IsInRectangle f h (record rows { end = rows.first }) columns t → ⊥
 no_row_added f h rows columns t i = let a = i.row_from in let b = i.row_below in omega arith
 
 pub all_rows_added : (f : Family) (h y : ℕ) (rows columns : Run) (t : Tile) → y ≤ max rows.first rows.end → rows.end ≤ y
     → IsInRectangle f h (record rows { end = y }) columns t ↔ IsInRectangle f h rows columns t
 all_rows_added f h y rows columns t most past = (
-  (λ i. let a = i.row_from in let b = i.row_below in record { family_is = i.family_is; height_is = i.height_is; row_from = i.row_from; row_below = omega arith; column_from = i.column_from; column_below = i.column_below }),
-  (λ i. let a = i.row_from in let b = i.row_below in record { family_is = i.family_is; height_is = i.height_is; row_from = i.row_from; row_below = omega arith; column_from = i.column_from; column_below = i.column_below }),
+  (λ i. let a = i.row_from in
+      let b = i.row_below in
+      record {
+        family_is = i.family_is;
+        height_is = i.height_is;
+        row_from = i.row_from;
+        row_below = omega arith;
+        column_from = i.column_from;
+        column_below = i.column_below;
+      }),
+  (λ i. let a = i.row_from in
+      let b = i.row_below in
+      record {
+        family_is = i.family_is;
+        height_is = i.height_is;
+        row_from = i.row_from;
+        row_below = omega arith;
+        column_from = i.column_from;
+        column_below = i.column_below;
+      }),
 )
 
-pub empty_rectangle : (f : Family) (h : ℕ) (rows columns : Run) (t : Tile) → columns.end - columns.first ≡ 0 → IsInRectangle f h rows columns t → ⊥
+pub empty_rectangle : (f : Family) (h : ℕ) (rows columns : Run) (t : Tile) → columns.end - columns.first ≡ 0
+    → IsInRectangle f h rows columns t → ⊥
 empty_rectangle f h rows columns t e i = let a = i.column_from in let b = i.column_below in omega arith
 
 -- one source more
@@ -122,20 +220,28 @@ at_end : (xs : List SourceHead) (x : SourceHead) → slice_get (xs ++ x ∷ []) 
 at_end [] x = refl
 at_end (y ∷ ys) x = at_end ys x
 
-at_cases : (xs : List SourceHead) (x : SourceHead) (k : ℕ) (h : SourceHead) → slice_get (xs ++ x ∷ []) k ≡ Some h → (slice_get xs k ≡ Some h) ⊎ (x ≡ h)
+at_cases : (xs : List SourceHead) (x : SourceHead) (k : ℕ) (h : SourceHead) → slice_get (xs ++ x ∷ []) k ≡ Some h
+    → (slice_get xs k ≡ Some h) ⊎ (x ≡ h)
 at_cases [] x zero h e = inr (cc)
 at_cases [] x (suc k) h e = absurd (cc)
 at_cases (y ∷ ys) x zero h e = inl e
 at_cases (y ∷ ys) x (suc k) h e = at_cases ys x k h e
 
-pub one_source_more : (xs : List SourceHead) (x : SourceHead) (t : Tile) → (Reached xs t ⊎ Reaches x t) ↔ Reached (xs ++ x ∷ []) t
+pub one_source_more : (xs : List SourceHead) (x : SourceHead) (t : Tile) → (Reached xs t ⊎ Reaches x t)
+    ↔ Reached (xs ++ x ∷ []) t
 one_source_more xs x t = (put, λ r. split r (at_cases xs x r.number r.head r.there))
   where
     put : Reached xs t ⊎ Reaches x t → Reached (xs ++ x ∷ []) t
-    put (inl r) = record { number = r.number; head = r.head; there = at_left xs (x ∷ []) r.number r.head r.there; reaches = r.reaches }
+    put (inl r) = record {
+      number = r.number;
+      head = r.head;
+      there = at_left xs (x ∷ []) r.number r.head r.there;
+      reaches = r.reaches;
+    }
     put (inr r) = record { number = length xs; head = x; there = at_end xs x; reaches = r }
 
-    split : (r : Reached (xs ++ x ∷ []) t) → (slice_get xs r.number ≡ Some r.head) ⊎ (x ≡ r.head) → Reached xs t ⊎ Reaches x t
+    split : (r : Reached (xs ++ x ∷ []) t) → (slice_get xs r.number ≡ Some r.head) ⊎ (x ≡ r.head)
+        → Reached xs t ⊎ Reaches x t
     split r (inl e) = inl (record { number = r.number; head = r.head; there = e; reaches = r.reaches })
     split r (inr e) = inr (subst (λ h. Reaches h t) (sym e) r.reaches)
 

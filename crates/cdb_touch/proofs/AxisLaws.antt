@@ -17,9 +17,11 @@ pub record IsFirst (step low first : ℕ) : Type 0 where
   pub above : low ≤ first
   pub near : first < low + step
 
-pub first_of : (step low first : ℕ) → 1 ≤ step → first ≡ (low / step + min 1 (low % step)) * step → IsFirst step low first
+pub first_of : (step low first : ℕ) → 1 ≤ step → first ≡ (low / step + min 1 (low % step)) * step
+    → IsFirst step low first
 first_of step low first p e =
-    let t : (low ≤ (low / step + min 1 (low % step)) * step) × ((low / step + min 1 (low % step)) * step < low + step) = div_ceil_times low step p in
+    let t : (low ≤ (low / step + min 1 (low % step)) * step) × ((low / step + min 1 (low % step)) * step < low + step) =
+    div_ceil_times low step p in
     record {
       multiple = subst (λ n. step ∣ n) (sym e) (dvd-mul_left step (low / step + min 1 (low % step)));
       above = subst (λ n. low ≤ n) (sym e) t.0;
@@ -35,7 +37,8 @@ first_least step low first at f d le =
     ]
 
 -- the parts that do run from the one of the first multiple to the one of the last
-pub holds_to : (step low high extent first number : ℕ) → 1 ≤ extent → IsFirst step low first → HoldsMultiple step low high extent number
+pub holds_to : (step low high extent first number : ℕ) → 1 ≤ extent → IsFirst step low first
+    → HoldsMultiple step low high extent number
     → (first < high) × (first / extent ≤ number) × (number < (high - 1) / extent + 1)
 holds_to step low high extent first number p f m =
     let least : first ≤ m.at = first_least step low first m.at f m.multiple m.above in
@@ -45,7 +48,8 @@ holds_to step low high extent first number p f m =
     (omega arith, omega arith, omega arith)
 
 pub holds_from : (step low high extent first number : ℕ) → 1 ≤ extent → step ∣ extent → IsFirst step low first
-    → first < high → first / extent ≤ number → number < (high - 1) / extent + 1 → HoldsMultiple step low high extent number
+    → first < high → first / extent ≤ number → number < (high - 1) / extent + 1
+    → HoldsMultiple step low high extent number
 holds_from step low high extent first number p d f lt ge le =
     let q : first / extent * extent + first % extent ≡ first = div-add-mod' first extent in
     let r : first % extent < extent = mod_below first extent p in
@@ -77,15 +81,18 @@ inset-below Elevation step p = p
 inset-below Material step p = omega arith
 
 -- where a place stands in a part, the corner of its cell does
-pub corner_in_part : (step extent n corner inset : ℕ) → step ∣ extent → step ∣ corner → inset < step → n * extent ≤ corner + inset → n * extent ≤ corner
+pub corner_in_part : (step extent n corner inset : ℕ) → step ∣ extent → step ∣ corner → inset < step
+    → n * extent ≤ corner + inset → n * extent ≤ corner
 corner_in_part step extent n corner inset d e lt le =
     elim (cases_lt corner (n * extent)) [
-      | inl p ↦ let q : corner + step ≤ n * extent = next_multiple step corner (n * extent) e (dvd_trans step d (dvd-mul_left extent n)) p in omega arith
+      | inl p ↦ let q : corner + step ≤ n * extent = next_multiple step corner (n * extent) e
+          (dvd_trans step d (dvd-mul_left extent n)) p in omega arith
       | inr p ↦ p
     ]
 
 -- and where the corner stands in a part, the place does
-pub place_in_part : (step extent n corner inset : ℕ) → step ∣ extent → step ∣ corner → inset < step → corner < n * extent + extent → corner + inset < n * extent + extent
+pub place_in_part : (step extent n corner inset : ℕ) → step ∣ extent → step ∣ corner → inset < step
+    → corner < n * extent + extent → corner + inset < n * extent + extent
 place_in_part step extent n corner inset d e lt le =
     let f : step ∣ n * extent + extent = dvd-add step (dvd_trans step d (dvd-mul_left extent n)) d in
     let q : corner + step ≤ n * extent + extent = next_multiple step corner (n * extent + extent) e f le in
@@ -97,24 +104,55 @@ past_corners Elevation step far globe = min (far + 1) globe
 past_corners Material step far globe = far - step / 2
 
 pub place_to : (kind : Kind) (step near far extent globe n : ℕ) → 1 ≤ step → step ∣ extent → (n + 1) * extent ≤ globe
-    → HasPlaceOnAxis kind step near far extent n → HoldsMultiple step (near - inset_of kind step) (past_corners kind step far globe) extent n
+    → HasPlaceOnAxis kind step near far extent n
+    → HoldsMultiple step (near - inset_of kind step) (past_corners kind step far globe) extent n
 place_to Elevation step near far extent globe n p d within h =
     let a = h.from_low in let b = h.below_high in let x = h.from_near in let y = h.to_far in
-    record { at = h.corner; multiple = h.on_grid; above = omega arith; below = omega arith; south = omega arith; north = omega arith }
+    record {
+      at = h.corner;
+      multiple = h.on_grid;
+      above = omega arith;
+      below = omega arith;
+      south = omega arith;
+      north = omega arith;
+    }
 place_to Material step near far extent globe n p d within h =
     let a = h.from_low in let b = h.below_high in let x = h.from_near in let y = h.to_far in
     let low : n * extent ≤ h.corner = corner_in_part step extent n h.corner (step / 2) d h.on_grid (omega arith) a in
-    record { at = h.corner; multiple = h.on_grid; above = omega arith; below = omega arith; south = low; north = omega arith }
+    record {
+      at = h.corner;
+      multiple = h.on_grid;
+      above = omega arith;
+      below = omega arith;
+      south = low;
+      north = omega arith;
+    }
 
 pub place_from : (kind : Kind) (step near far extent globe n : ℕ) → 1 ≤ step → step ∣ extent
-    → HoldsMultiple step (near - inset_of kind step) (past_corners kind step far globe) extent n → HasPlaceOnAxis kind step near far extent n
+    → HoldsMultiple step (near - inset_of kind step) (past_corners kind step far globe) extent n
+    → HasPlaceOnAxis kind step near far extent n
 place_from Elevation step near far extent globe n p d m =
     let a = m.above in let b = m.below in let x = m.south in let y = m.north in
-    record { corner = m.at; on_grid = m.multiple; from_low = omega arith; below_high = omega arith; from_near = omega arith; to_far = omega arith }
+    record {
+      corner = m.at;
+      on_grid = m.multiple;
+      from_low = omega arith;
+      below_high = omega arith;
+      from_near = omega arith;
+      to_far = omega arith;
+    }
 place_from Material step near far extent globe n p d m =
     let a = m.above in let b = m.below in let x = m.south in let y = m.north in
-    let high : m.at + step / 2 < n * extent + extent = place_in_part step extent n m.at (step / 2) d m.multiple (omega arith) y in
-    record { corner = m.at; on_grid = m.multiple; from_low = omega arith; below_high = high; from_near = omega arith; to_far = omega arith }
+    let high : m.at + step / 2 < n * extent + extent =
+    place_in_part step extent n m.at (step / 2) d m.multiple (omega arith) y in
+    record {
+      corner = m.at;
+      on_grid = m.multiple;
+      from_low = omega arith;
+      below_high = high;
+      from_near = omega arith;
+      to_far = omega arith;
+    }
 
 pub each_place : (kind : Kind) (step near far extent globe low high first end n : ℕ) → 1 ≤ step → step ∣ extent
     → low ≡ near - inset_of kind step → high ≡ past_corners kind step far globe

@@ -11,8 +11,10 @@ use Rattle.cdb_touch.specs.inside.Count.{HasCount}
 -- a set has one count
 pub HasCount-only : {M : Tile → Type 0} (m n : ℕ) → HasCount M m → HasCount M n → m ≡ n
 HasCount-only m n a b =
-    let p : length a.tiles ≤ length b.tiles = length_le a.tiles b.tiles a.listed.once (λ t c. (b.listed.exact t).1 ((a.listed.exact t).0 c)) in
-    let q : length b.tiles ≤ length a.tiles = length_le b.tiles a.tiles b.listed.once (λ t c. (a.listed.exact t).1 ((b.listed.exact t).0 c)) in
+    let p : length a.tiles ≤ length b.tiles =
+    length_le a.tiles b.tiles a.listed.once (λ t c. (b.listed.exact t).1 ((a.listed.exact t).0 c)) in
+    let q : length b.tiles ≤ length a.tiles =
+    length_le b.tiles a.tiles b.listed.once (λ t c. (a.listed.exact t).1 ((b.listed.exact t).0 c)) in
     let x = a.counted in let y = b.counted in omega arith
 
 pub HasCount-none : {M : Tile → Type 0} → ((t : Tile) → M t → ⊥) → HasCount M 0
@@ -25,7 +27,10 @@ HasCount-none out = record {
 pub HasCount-iff : {A B : Tile → Type 0} (n : ℕ) → ((t : Tile) → A t ↔ B t) → HasCount A n → HasCount B n
 HasCount-iff n same a = record {
   tiles = a.tiles;
-  listed = record { exact = λ t. (λ c. (same t).0 ((a.listed.exact t).0 c), λ m. (a.listed.exact t).1 ((same t).1 m)); once = a.listed.once };
+  listed = record {
+    exact = λ t. (λ c. (same t).0 ((a.listed.exact t).0 c), λ m. (a.listed.exact t).1 ((same t).1 m));
+    once = a.listed.once;
+  };
   counted = a.counted;
 }
 
@@ -45,9 +50,12 @@ HasCount-union {A} {B} {M} m n a b apart same = record {
   tiles = a.tiles ++ b.tiles;
   listed = record {
     exact = λ t. (λ c. (same t).0 (split t (Contains-append_cases a.tiles b.tiles t c)), λ k. join t ((same t).1 k));
-    once = once_append a.tiles b.tiles a.listed.once b.listed.once (λ t x y. apart t ((a.listed.exact t).0 x) ((b.listed.exact t).0 y));
+    once = once_append a.tiles b.tiles a.listed.once b.listed.once (λ t x y. apart t ((a.listed.exact t).0 x)
+        ((b.listed.exact t).0 y));
   };
-  counted = let x = a.counted in let y = b.counted in let e : length (a.tiles ++ b.tiles) ≡ length a.tiles + length b.tiles = length-append a.tiles b.tiles in omega arith;
+  counted = let x = a.counted in let y = b.counted in
+      let e : length (a.tiles ++ b.tiles) ≡ length a.tiles + length b.tiles =
+      length-append a.tiles b.tiles in omega arith;
 }
   where
     split : (t : Tile) → Contains a.tiles t ⊎ Contains b.tiles t → A t ⊎ B t
@@ -77,7 +85,8 @@ IsLoad-only (head ∷ heads) m n a b =
     let x : m ≡ a.0 + a.1 = a.2.2 in let y : n ≡ b.0 + b.1 = b.2.2 in omega arith
 
 -- the load of one source more
-pub IsLoad-push : (heads : List SourceHead) (head : SourceHead) (m n : ℕ) → IsLoad heads m → IsReachCount head n → IsLoad (heads ++ head ∷ []) (m + n)
+pub IsLoad-push : (heads : List SourceHead) (head : SourceHead) (m n : ℕ) → IsLoad heads m → IsReachCount head n
+    → IsLoad (heads ++ head ∷ []) (m + n)
 IsLoad-push [] head m n a r = let e : m ≡ 0 = a in (n, 0, (r, refl, omega arith))
 IsLoad-push (h ∷ heads) head m n a r =
     let x : m ≡ a.0 + a.1 = a.2.2 in

@@ -20,11 +20,14 @@ use Rattle.cdb_touch.proofs.NumberLaws.{tiles_most}
 use Rattle.cdb_touch.proofs.CountLaws.{HasCount-none, HasCount-iff, HasCount-union, HasCount-same}
 
 -- row by row
-pub row_none : (head : SourceHead) (f : Family) (h first : ℕ) → ((t : Tile) → Reaches head t → tile_height t ≡ h → first ≤ row_of t.cell.lat)
+pub row_none : (head : SourceHead) (f : Family) (h first : ℕ)
+    → ((t : Tile) → Reaches head t → tile_height t ≡ h → first ≤ row_of t.cell.lat)
     → (t : Tile) → IsBelowRow head f h first t → ⊥
-row_none head f h first each t m = let a : first ≤ row_of t.cell.lat = each t m.reaches m.height_is in let b = m.row_below in omega arith
+row_none head f h first each t m = let a : first ≤ row_of t.cell.lat = each t m.reaches m.height_is in
+    let b = m.row_below in omega arith
 
-pub no_row : (head : SourceHead) (f : Family) (h first : ℕ) → ((t : Tile) → Reaches head t → tile_height t ≡ h → first ≤ row_of t.cell.lat)
+pub no_row : (head : SourceHead) (f : Family) (h first : ℕ)
+    → ((t : Tile) → Reaches head t → tile_height t ≡ h → first ≤ row_of t.cell.lat)
     → HasCount (IsBelowRow head f h first) 0
 no_row head f h first each = HasCount-none (row_none head f h first each)
 
@@ -33,28 +36,40 @@ pub one_row_split : (head : SourceHead) (f : Family) (h row : ℕ) (t : Tile)
 one_row_split head f h row t = (put, split)
   where
     put : IsBelowRow head f h row t ⊎ IsOfRow head f h row t → IsBelowRow head f h (row + 1) t
-    put (inl i) = let x = i.row_below in record { reaches = i.reaches; family_is = i.family_is; height_is = i.height_is; row_below = omega arith }
-    put (inr i) = let x = i.row_is in record { reaches = i.reaches; family_is = i.family_is; height_is = i.height_is; row_below = omega arith }
+    put (inl i) = let x = i.row_below in
+        record { reaches = i.reaches; family_is = i.family_is; height_is = i.height_is; row_below = omega arith }
+    put (inr i) = let x = i.row_is in
+        record { reaches = i.reaches; family_is = i.family_is; height_is = i.height_is; row_below = omega arith }
 
     split : IsBelowRow head f h (row + 1) t → IsBelowRow head f h row t ⊎ IsOfRow head f h row t
     split i = let x = i.row_below in elim (cases_lt (row_of t.cell.lat) row) [
       | inl p ↦ inl (record { reaches = i.reaches; family_is = i.family_is; height_is = i.height_is; row_below = p })
-      | inr p ↦ inr (record { reaches = i.reaches; family_is = i.family_is; height_is = i.height_is; row_is = omega arith })
+      | inr p ↦
+          inr (record { reaches = i.reaches; family_is = i.family_is; height_is = i.height_is; row_is = omega arith })
     ]
 
-pub one_row_more : (head : SourceHead) (f : Family) (h row m n : ℕ) → HasCount (IsBelowRow head f h row) m → HasCount (IsOfRow head f h row) n
+pub one_row_more : (head : SourceHead) (f : Family) (h row m n : ℕ) → HasCount (IsBelowRow head f h row) m
+    → HasCount (IsOfRow head f h row) n
     → HasCount (IsBelowRow head f h (row + 1)) (m + n)
 one_row_more head f h row m n a b =
-    HasCount-union m n a b (λ t p q. let x = p.row_below in let y = q.row_is in omega arith) (one_row_split head f h row)
+    HasCount-union m n a b (λ t p q. let x = p.row_below in let y = q.row_is in omega arith)
+    (one_row_split head f h row)
 
-pub all_rows_same : (head : SourceHead) (f : Family) (h end : ℕ) → ((t : Tile) → Reaches head t → tile_height t ≡ h → row_of t.cell.lat < end)
+pub all_rows_same : (head : SourceHead) (f : Family) (h end : ℕ)
+    → ((t : Tile) → Reaches head t → tile_height t ≡ h → row_of t.cell.lat < end)
     → (t : Tile) → IsBelowRow head f h end t ↔ IsOfHeight head f h t
 all_rows_same head f h end each t = (
   (λ i. record { reaches = i.reaches; family_is = i.family_is; height_is = i.height_is }),
-  (λ i. record { reaches = i.reaches; family_is = i.family_is; height_is = i.height_is; row_below = each t i.reaches i.height_is }),
+  (λ i. record {
+    reaches = i.reaches;
+    family_is = i.family_is;
+    height_is = i.height_is;
+    row_below = each t i.reaches i.height_is;
+  }),
 )
 
-pub all_rows_counted : (head : SourceHead) (f : Family) (h end n : ℕ) → ((t : Tile) → Reaches head t → tile_height t ≡ h → row_of t.cell.lat < end)
+pub all_rows_counted : (head : SourceHead) (f : Family) (h end n : ℕ)
+    → ((t : Tile) → Reaches head t → tile_height t ≡ h → row_of t.cell.lat < end)
     → HasCount (IsBelowRow head f h end) n → HasCount (IsOfHeight head f h) n
 all_rows_counted head f h end n each a = HasCount-iff n (all_rows_same head f h end each) a
 
@@ -70,8 +85,10 @@ pub one_height_split : (head : SourceHead) (f : Family) (h : ℕ) (t : Tile)
 one_height_split head f h t = (put, split)
   where
     put : IsBelowHeight head f h t ⊎ IsOfHeight head f h t → IsBelowHeight head f (h + 1) t
-    put (inl i) = let x = i.height_below in record { reaches = i.reaches; family_is = i.family_is; height_below = omega arith }
-    put (inr i) = let x = i.height_is in record { reaches = i.reaches; family_is = i.family_is; height_below = omega arith }
+    put (inl i) = let x = i.height_below in
+        record { reaches = i.reaches; family_is = i.family_is; height_below = omega arith }
+    put (inr i) = let x = i.height_is in
+        record { reaches = i.reaches; family_is = i.family_is; height_below = omega arith }
 
     split : IsBelowHeight head f (h + 1) t → IsBelowHeight head f h t ⊎ IsOfHeight head f h t
     split i = let x = i.height_below in elim (cases_lt (tile_height t) h) [
@@ -79,18 +96,23 @@ one_height_split head f h t = (put, split)
       | inr p ↦ inr (record { reaches = i.reaches; family_is = i.family_is; height_is = omega arith })
     ]
 
-pub one_height_more : (head : SourceHead) (f : Family) (h m n : ℕ) → HasCount (IsBelowHeight head f h) m → HasCount (IsOfHeight head f h) n
+pub one_height_more : (head : SourceHead) (f : Family) (h m n : ℕ) → HasCount (IsBelowHeight head f h) m
+    → HasCount (IsOfHeight head f h) n
     → HasCount (IsBelowHeight head f (h + 1)) (m + n)
 one_height_more head f h m n a b =
-    HasCount-union m n a b (λ t p q. let x = p.height_below in let y = q.height_is in omega arith) (one_height_split head f h)
+    HasCount-union m n a b (λ t p q. let x = p.height_below in let y = q.height_is in omega arith)
+    (one_height_split head f h)
 
-pub all_heights_same : (head : SourceHead) (f : Family) (h : ℕ) → 35 ≤ h → (t : Tile) → IsBelowHeight head f h t ↔ IsOfFamily head f t
+pub all_heights_same : (head : SourceHead) (f : Family) (h : ℕ) → 35 ≤ h → (t : Tile) → IsBelowHeight head f h t
+    ↔ IsOfFamily head f t
 all_heights_same head f h past t = (
   (λ i. record { reaches = i.reaches; family_is = i.family_is }),
-  (λ i. let m : tile_height t ≤ 34 = tile_height-most t in record { reaches = i.reaches; family_is = i.family_is; height_below = omega arith }),
+  (λ i. let m : tile_height t ≤ 34 = tile_height-most t in
+      record { reaches = i.reaches; family_is = i.family_is; height_below = omega arith }),
 )
 
-pub all_heights_counted : (head : SourceHead) (f : Family) (n : ℕ) → HasCount (IsBelowHeight head f 35) n → HasCount (IsOfFamily head f) n
+pub all_heights_counted : (head : SourceHead) (f : Family) (n : ℕ) → HasCount (IsBelowHeight head f 35) n
+    → HasCount (IsOfFamily head f) n
 all_heights_counted head f n a = HasCount-iff n (all_heights_same head f 35 (lit≤ tt)) a
 
 -- family by family
@@ -103,7 +125,8 @@ three_families_split head t e = (put, λ r. split t.family refl r)
     put (inl (inr i)) = i.reaches
     put (inr i) = i.reaches
 
-    split : (f : Family) → t.family ≡ f → Reaches head t → (IsOfFamily head Elev t ⊎ IsOfFamily head Low t) ⊎ IsOfFamily head High t
+    split : (f : Family) → t.family ≡ f → Reaches head t → (IsOfFamily head Elev t ⊎ IsOfFamily head Low t)
+        ⊎ IsOfFamily head High t
     split Elev q r = inl (inl (record { reaches = r; family_is = q }))
     split Low q r = inl (inr (record { reaches = r; family_is = q }))
     split High q r = inr (record { reaches = r; family_is = q })
@@ -163,11 +186,13 @@ square_coarser h p q =
         again : (b : ℕ) → 2 * b * (2 * b) ≡ 4 * (b * b)
         again b = omega arith
 
-fine_more : (h m n s t : ℕ) → s ≡ 4 * t → n ≤ 64800 * t → h ≤ 24 → 3 * m + 64800 * s ≤ 18239578490850508800 + 194400 * (h - 25)
+fine_more : (h m n s t : ℕ) → s ≡ 4 * t → n ≤ 64800 * t → h ≤ 24
+    → 3 * m + 64800 * s ≤ 18239578490850508800 + 194400 * (h - 25)
     → 3 * (m + n) + 64800 * t ≤ 18239578490850508800 + 194400 * (h + 1 - 25)
 fine_more h m n s t e le q x = omega arith
 
-coarse_more : (h m n s t : ℕ) → t ≡ 1 → s ≡ 1 → n ≤ 64800 * t → 25 ≤ h → 3 * m + 64800 * s ≤ 18239578490850508800 + 194400 * (h - 25)
+coarse_more : (h m n s t : ℕ) → t ≡ 1 → s ≡ 1 → n ≤ 64800 * t → 25 ≤ h
+    → 3 * m + 64800 * s ≤ 18239578490850508800 + 194400 * (h - 25)
     → 3 * (m + n) + 64800 * t ≤ 18239578490850508800 + 194400 * (h + 1 - 25)
 coarse_more h m n s t a b le q x = omega arith
 
@@ -178,7 +203,8 @@ IsSmall h n = 3 * n + 64800 * (tiles_of (h - 1) * tiles_of (h - 1)) ≤ 18239578
 pub small_none : (h : ℕ) → 1 ≤ h → IsSmall h 0
 small_none h p =
     let m : tiles_of (h - 1) ≤ 16777216 = pow_mono {j = 24} (let le : 24 - (h - 1) ≤ 24 = omega arith in le) in
-    let q : tiles_of (h - 1) * tiles_of (h - 1) ≤ 16777216 * 16777216 = mul-le (tiles_of (h - 1)) (tiles_of (h - 1)) 16777216 16777216 m m in
+    let q : tiles_of (h - 1) * tiles_of (h - 1) ≤ 16777216 * 16777216 =
+    mul-le (tiles_of (h - 1)) (tiles_of (h - 1)) 16777216 16777216 m m in
     below (tiles_of (h - 1) * tiles_of (h - 1)) q
   where
     below : (t : ℕ) → t ≤ 16777216 * 16777216 → 3 * 0 + 64800 * t ≤ 18239578490850508800 + 194400 * (h - 25)
@@ -189,7 +215,8 @@ small_more h m n p le small =
     let e : h + 1 - 1 ≡ h = omega arith in
     subst (λ k. 3 * (m + n) + 64800 * (tiles_of k * tiles_of k) ≤ 18239578490850508800 + 194400 * (h + 1 - 25)) (sym e)
     (elim (cases_lt h 25) [
-      | inl q ↦ let s : tiles_of (h - 1) * tiles_of (h - 1) ≡ 4 * (tiles_of h * tiles_of h) = square_coarser h p (omega arith) in
+      | inl q ↦ let s : tiles_of (h - 1) * tiles_of (h - 1) ≡ 4 * (tiles_of h * tiles_of h) =
+          square_coarser h p (omega arith) in
           fine_more h m n (tiles_of (h - 1) * tiles_of (h - 1)) (tiles_of h * tiles_of h) s le (omega arith) small
       | inr q ↦
           let a : 24 - h ≡ 0 = omega arith in let b : 24 - (h - 1) ≡ 0 = omega arith in

@@ -30,7 +30,8 @@ degree-tiles h le =
     turned : (a b c : ℕ) → a * b * c ≡ c * a * b
     turned a b c = omega arith
 
-numbered : (y tiles u side r s d : ℕ) → tiles * side * s ≡ d → y * d + (u * side + r) * s ≡ (y * tiles + u) * (side * s) + r * s
+numbered : (y tiles u side r s d : ℕ) → tiles * side * s ≡ d → y * d + (u * side + r) * s
+    ≡ (y * tiles + u) * (side * s) + r * s
 numbered y tiles u side r s d e = ap (λ n. y * n + (u * side + r) * s) (sym e) ∙ spread
   where
     spread : y * (tiles * side * s) + (u * side + r) * s ≡ (y * tiles + u) * (side * s) + r * s
@@ -39,22 +40,26 @@ numbered y tiles u side r s d e = ap (λ n. y * n + (u * side + r) * s) (sym e) 
 numbered_east : (x w m tiles u side r s d : ℕ) → m * w ≡ x → tiles * side * s ≡ d
     → x * d + (u * side + r) * (w * s) ≡ (m * tiles + u) * (side * (w * s)) + r * (w * s)
 numbered_east x w m tiles u side r s d ex e =
-    ap (λ n. n * d + (u * side + r) * (w * s)) (sym ex) ∙ ap (λ n. m * w * n + (u * side + r) * (w * s)) (sym e) ∙ spread
+    ap (λ n. n * d + (u * side + r) * (w * s)) (sym ex)
+    ∙ ap (λ n. m * w * n + (u * side + r) * (w * s)) (sym e) ∙ spread
   where
     spread : m * w * (tiles * side * s) + (u * side + r) * (w * s) ≡ (m * tiles + u) * (side * (w * s)) + r * (w * s)
     spread = omega arith
 
 -- the edges of a tile by its numbers
-pub element-north : (t : Tile) (r c : ℕ) → (element_corner t r c).north ≡ row_number t * (tile_side t * step (tile_height t)) + r * step (tile_height t)
+pub element-north : (t : Tile) (r c : ℕ) → (element_corner t r c).north
+    ≡ row_number t * (tile_side t * step (tile_height t)) + r * step (tile_height t)
 element-north t r c = let h : ℕ = tile_height t in
     numbered (row_of t.cell.lat) (tiles_of h) t.up (side_of h) r (step h) degree (all_rows h (tile_height-most t))
 
 pub column-width : (t : Tile) → column_of t.cell.lon / tile_width t * tile_width t ≡ column_of t.cell.lon
 column-width t = div-mul_cancel (tile_width t) (dvd_of_mod-eq-zero (tile_width t) t.cell.on_grid)
 
-pub element-east : (t : Tile) (r c : ℕ) → (element_corner t r c).east ≡ column_number t * (tile_side t * tile_step_east t) + c * tile_step_east t
+pub element-east : (t : Tile) (r c : ℕ) → (element_corner t r c).east
+    ≡ column_number t * (tile_side t * tile_step_east t) + c * tile_step_east t
 element-east t r c = let h : ℕ = tile_height t in
-    numbered_east (column_of t.cell.lon) (tile_width t) (column_of t.cell.lon / tile_width t) (tiles_of h) t.right (side_of h) c (step h) degree
+    numbered_east (column_of t.cell.lon) (tile_width t) (column_of t.cell.lon / tile_width t) (tiles_of h)
+    t.right (side_of h) c (step h) degree
     (column-width t) (all_rows h (tile_height-most t))
 
 -- a tile holds the places of its row and its column
@@ -83,7 +88,8 @@ numbers_from_tile t p i =
 pub tile_from_numbers : (t : Tile) (p : Place) → InNumbers t p → IsInTile t p
 tile_from_numbers t p i =
     record {
-      south = subst (λ m. m ≤ p.north) (sym (element-north t 0 0)) (first_edge _ (step (tile_height t)) p.north i.south);
+      south = subst (λ m. m ≤ p.north) (sym (element-north t 0 0))
+          (first_edge _ (step (tile_height t)) p.north i.south);
       north = subst (λ m. p.north < m) (sym (element-north t (tile_side t) 0)) i.north;
       west = subst (λ m. m ≤ p.east) (sym (element-east t 0 0)) (first_edge _ (tile_step_east t) p.east i.west);
       east = subst (λ m. p.east < m) (sym (element-east t 0 (tile_side t))) i.east;
@@ -106,15 +112,19 @@ on_globe t p i = let g : IsInGeocell t.cell p = tile_in_cell t p i in
     let y : row_of t.cell.lat < 180 = row_of-below t.cell.lat t.cell.north in
     let x : column_of t.cell.lon < 360 = column_of-below t.cell.lon t.cell.east in
     let q : column_of t.cell.lon + tile_width t ≤ 360 = next_multiple (tile_width t) (column_of t.cell.lon) 360
-    (dvd_of_mod-eq-zero (tile_width t) t.cell.on_grid) (width-dvd (row_of t.cell.lat)) x in
-    (below_degrees p.north (row_of t.cell.lat + 1) 180 n (omega arith), below_degrees p.east (column_of t.cell.lon + tile_width t) 360 e q)
+    (dvd_of_mod-eq-zero (tile_width t) t.cell.on_grid) (width-dvd (row_of t.cell.lat)) x in (
+      below_degrees p.north (row_of t.cell.lat + 1) 180 n (omega arith),
+      below_degrees p.east (column_of t.cell.lon + tile_width t) 360 e q,
+    )
   where
     below_degrees : (n a b : ℕ) → n < a * degree → a ≤ b → n < b * degree
     below_degrees n a b lt le = omega arith
 
 -- the numbers of a tile are those of its height
 pub row_number-below : (t : Tile) → row_number t < 180 * tiles_of (tile_height t)
-row_number-below t = subst (λ n. row_number t < n) (mul_comm (tiles_of (tile_height t)) 180) (mul-add-lt (row_of t.cell.lat) (tiles_of (tile_height t)) t.up 180 (row_of-below t.cell.lat t.cell.north) t.up_in_range)
+row_number-below t = subst (λ n. row_number t < n) (mul_comm (tiles_of (tile_height t)) 180)
+    (mul-add-lt (row_of t.cell.lat) (tiles_of (tile_height t)) t.up 180
+    (row_of-below t.cell.lat t.cell.north) t.up_in_range)
 
 pub column-below : (t : Tile) → column_of t.cell.lon / tile_width t < 360 / tile_width t
 column-below t =
@@ -125,10 +135,16 @@ column-below t =
     less_times (x / w) (360 / w) w (omega arith)
   where
     less_times : (m n w : ℕ) → m * w < n * w → m < n
-    less_times m n w lt = elim (cases_lt m n) [ inl p ↦ p | inr p ↦ let q : n * w ≤ m * w = mul-le-mul_right w p in absurd (omega arith) ]
+    less_times m n w lt = elim (cases_lt m n) [
+      | inl p ↦ p
+      | inr p ↦ let q : n * w ≤ m * w = mul-le-mul_right w p in
+          absurd (omega arith)
+    ]
 
 pub column_number-below : (t : Tile) → column_number t < 360 / tile_width t * tiles_of (tile_height t)
-column_number-below t = subst (λ n. column_number t < n) (mul_comm (tiles_of (tile_height t)) (360 / tile_width t)) (mul-add-lt (column_of t.cell.lon / tile_width t) (tiles_of (tile_height t)) t.right (360 / tile_width t) (column-below t) t.right_in_range)
+column_number-below t = subst (λ n. column_number t < n) (mul_comm (tiles_of (tile_height t)) (360 / tile_width t))
+    (mul-add-lt (column_of t.cell.lon / tile_width t) (tiles_of (tile_height t)) t.right (360 / tile_width t)
+    (column-below t) t.right_in_range)
 
 -- the rows and the columns of a height fill the globe
 pub rows-fill : (h : ℕ) → h ≤ 34 → 180 * tiles_of h * (side_of h * step h) ≡ 180 * degree
@@ -147,7 +163,8 @@ wide-extent w h = turned w (side_of h) (step h)
 pub columns-fill : (w h : ℕ) → h ≤ 34 → w ∣ 360 → 360 / w * tiles_of h * (side_of h * (w * step h)) ≡ 360 * degree
 columns-fill w h le d = let e : tiles_of h * side_of h * step h ≡ degree = all_rows h le in
     let q : 360 / w * w ≡ 360 = div-mul_cancel w d in
-    spread (360 / w) w (tiles_of h) (side_of h) (step h) ∙ ap (λ n. n * (tiles_of h * side_of h * step h)) q ∙ ap (λ n. 360 * n) e
+    spread (360 / w) w (tiles_of h) (side_of h) (step h) ∙ ap (λ n. n * (tiles_of h * side_of h * step h)) q
+    ∙ ap (λ n. 360 * n) e
   where
     spread : (m w a b c : ℕ) → m * a * (b * (w * c)) ≡ m * w * (a * b * c)
     spread m w a b c = omega arith

@@ -18,7 +18,8 @@ tile_eq s t = sameb the_type s.family t.family
     && (int_eq s.level.number t.level.number && (nat_eq s.up t.up && nat_eq s.right t.right)))
 
 pub tile_eq-equiv : IsEquivalence tile_eq
-tile_eq-equiv = subst (λ (E : Tile → Tile → Bool). IsEquivalence E) (λ i s t. sym (tile_ties s t) i) (eq_by_cmp_equiv tile_cmp-total)
+tile_eq-equiv = subst (λ (E : Tile → Tile → Bool). IsEquivalence E) (λ i s t. sym (tile_ties s t) i)
+    (eq_by_cmp_equiv tile_cmp-total)
 
 -- both of two true tests
 both : (a b : Bool) → (a && b) ≡ true → (a ≡ true) × (b ≡ true)
@@ -34,5 +35,6 @@ tile_eq-exact s t e =
     let l = both (int_eq s.level.number t.level.number) _ b.1 in
     let u = both (nat_eq s.up t.up) (nat_eq s.right t.right) l.1 in
     same_tile s t (same_true the_type (search rules) s.family t.family a.0)
-    (same_geocell s.cell t.cell ((Decides-int_eq s.cell.lat t.cell.lat).0 p.0) ((Decides-int_eq s.cell.lon t.cell.lon).0 p.1))
+    (same_geocell s.cell t.cell ((Decides-int_eq s.cell.lat t.cell.lat).0 p.0)
+    ((Decides-int_eq s.cell.lon t.cell.lon).0 p.1))
     ((Decides-int_eq s.level.number t.level.number).0 l.0) (eqb-true _ _ u.0) (eqb-true _ _ u.1)

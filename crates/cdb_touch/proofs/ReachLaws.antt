@@ -50,24 +50,28 @@ half_wide w k p =
 same_sum : (a b c : ℕ) → b ≡ c → a + 1 * b ≡ a + c
 same_sum a b c e = omega arith
 
-pub place-north : (f : Family) (k : ℕ) (c : Place) → 1 ≤ k → (place_in f k c).north ≡ c.north + inset_of (kind_of f) (step k)
+pub place-north : (f : Family) (k : ℕ) (c : Place) → 1 ≤ k → (place_in f k c).north
+    ≡ c.north + inset_of (kind_of f) (step k)
 place-north Elev k c p = omega arith
 place-north Low k c p = omega arith
 place-north High k c p = omega arith
 place-north Mat k c p = same_sum c.north (step (k - 1)) (step k / 2) (half k p)
 
-pub place-east : (f : Family) (k : ℕ) (c : Place) → 1 ≤ k → (place_in f k c).east ≡ c.east + inset_of (kind_of f) (width_of c * step k)
+pub place-east : (f : Family) (k : ℕ) (c : Place) → 1 ≤ k → (place_in f k c).east
+    ≡ c.east + inset_of (kind_of f) (width_of c * step k)
 place-east Elev k c p = omega arith
 place-east Low k c p = omega arith
 place-east High k c p = omega arith
-place-east Mat k c p = same_sum c.east (width_of c * step (k - 1)) (width_of c * step k / 2) (half_wide (width_of c) k p)
+place-east Mat k c p = same_sum c.east (width_of c * step (k - 1)) (width_of c * step k / 2)
+    (half_wide (width_of c) k p)
 
 -- a tile is a whole number of steps of each finer level
 pub rows-dvd : (side k h : ℕ) → k ≤ h → step k ∣ side * step h
 rows-dvd side k h le = dvd_trans (step k) (step-dvd k h le) (dvd-mul_left (step h) side)
 
 pub columns-dvd : (side w k h : ℕ) → k ≤ h → w * step k ∣ side * (w * step h)
-columns-dvd side w k h le = dvd_trans (w * step k) (mul-dvd-mul_left (step k) w (step-dvd k h le)) (dvd-mul_left (w * step h) side)
+columns-dvd side w k h le = dvd_trans (w * step k) (mul-dvd-mul_left (step k) w (step-dvd k h le))
+    (dvd-mul_left (w * step h) side)
 
 wide_step : (w k : ℕ) → 0 < w → 1 ≤ w * step k
 wide_step w k p = let s : 0 < step k = step-pos k in product w (step k) p s
@@ -86,9 +90,11 @@ corner_width t k c le on i p =
     let s = n.south in let u = n.north in
     let low : row_number t * (tile_side t * step (tile_height t)) ≤ c.north =
     corner_in_part (step k) (tile_side t * step (tile_height t)) (row_number t) c.north (inset_of kind (step k))
-    (rows-dvd (tile_side t) k (tile_height t) le) on.on_row (inset-below kind (step k) (step-pos k)) (subst (λ m. row_number t * (tile_side t * step (tile_height t)) ≤ m) e s) in
+    (rows-dvd (tile_side t) k (tile_height t) le) on.on_row (inset-below kind (step k) (step-pos k))
+    (subst (λ m. row_number t * (tile_side t * step (tile_height t)) ≤ m) e s) in
     let q : Place = record { north = c.north; east = at.east } in
-    let there : IsInTile t q = tile_from_numbers t q (record { south = low; north = omega arith; west = n.west; east = n.east }) in
+    let there : IsInTile t q =
+    tile_from_numbers t q (record { south = low; north = omega arith; west = n.west; east = n.east }) in
     same_width c q refl ∙ width_in_row t q there
 
 pub reaches_to : (head : SourceHead) (t : Tile) → Reaches head t
@@ -106,7 +112,8 @@ reaches_to head t r =
     place-east t.family k c p ∙ ap (λ m. c.east + inset_of kind (m * step k)) w in
     let rows : ℕ = row_number t * (tile_side t * step (tile_height t)) in
     let columns : ℕ = column_number t * (tile_side t * tile_step_east t) in
-    let row : HasPlaceOnAxis kind (step k) (corner_of head).north ((corner_of head).north + box_height head) (tile_side t * step (tile_height t)) (row_number t) = record {
+    let row : HasPlaceOnAxis kind (step k) (corner_of head).north ((corner_of head).north + box_height head)
+    (tile_side t * step (tile_height t)) (row_number t) = record {
       corner = c.north;
       on_grid = r.on_grid.on_row;
       from_low = subst (λ m. rows ≤ m) en n.south;
@@ -115,7 +122,9 @@ reaches_to head t r =
       to_far = subst (λ m. IsBefore kind m ((corner_of head).north + box_height head)) en
           (subst (λ j. IsBefore j at.north ((corner_of head).north + box_height head)) r.kind r.in_box.north);
     } in
-    let column : HasPlaceOnAxis kind (tile_width t * step k) (corner_of head).east ((corner_of head).east + box_width head) (tile_side t * tile_step_east t) (column_number t) = record {
+    let column : HasPlaceOnAxis kind (tile_width t * step k)
+    (corner_of head).east ((corner_of head).east + box_width head) (tile_side t * tile_step_east t)
+    (column_number t) = record {
       corner = c.east;
       on_grid = subst (λ m. m * step k ∣ c.east) w r.on_grid.on_column;
       from_low = subst (λ m. columns ≤ m) ee n.west;
@@ -124,12 +133,16 @@ reaches_to head t r =
       to_far = subst (λ m. IsBefore kind m ((corner_of head).east + box_width head)) ee
           (subst (λ j. IsBefore j at.east ((corner_of head).east + box_width head)) r.kind r.in_box.east);
     } in (
-      subst (λ j. HasPlaceOnAxis j (step k) (corner_of head).north ((corner_of head).north + box_height head) (tile_side t * step (tile_height t)) (row_number t)) (sym r.kind) row,
-      subst (λ j. HasPlaceOnAxis j (tile_width t * step k) (corner_of head).east ((corner_of head).east + box_width head) (tile_side t * tile_step_east t) (column_number t)) (sym r.kind) column,
+      subst (λ j. HasPlaceOnAxis j (step k) (corner_of head).north ((corner_of head).north + box_height head)
+          (tile_side t * step (tile_height t)) (row_number t)) (sym r.kind) row,
+      subst (λ j. HasPlaceOnAxis j (tile_width t * step k)
+          (corner_of head).east ((corner_of head).east + box_width head) (tile_side t * tile_step_east t)
+          (column_number t)) (sym r.kind) column,
     )
 
 pub reaches_from : (head : SourceHead) (t : Tile) → head.kind ≡ kind_of t.family → source_height head ≤ tile_height t
-    → HasRow head (tile_height t) (row_number t) → HasColumn head (tile_height t) (tile_width t) (column_number t) → Reaches head t
+    → HasRow head (tile_height t) (row_number t) → HasColumn head (tile_height t) (tile_width t) (column_number t)
+    → Reaches head t
 reaches_from head t e le a' b' =
     let k : ℕ = source_height head in
     let kind : Kind = kind_of t.family in
@@ -149,8 +162,10 @@ reaches_from head t e le a' b' =
       south = corner_in_part (step k) rows (row_number t) a.corner (inset_of kind (step k))
           (rows-dvd (tile_side t) k (tile_height t) le) a.on_grid (inset-below kind (step k) (step-pos k)) a.from_low;
       north = less_sum _ _ _ an;
-      west = corner_in_part (tile_width t * step k) columns (column_number t) b.corner (inset_of kind (tile_width t * step k))
-          (columns-dvd (tile_side t) (tile_width t) k (tile_height t) le) b.on_grid (inset-below kind (tile_width t * step k) wide) b.from_low;
+      west = corner_in_part (tile_width t * step k) columns (column_number t)
+          b.corner (inset_of kind (tile_width t * step k))
+          (columns-dvd (tile_side t) (tile_width t) k (tile_height t) le)
+          b.on_grid (inset-below kind (tile_width t * step k) wide) b.from_low;
       east = less_sum _ _ _ bn;
     }) in
     let w : width_of c ≡ tile_width t = width_in_row t c there in

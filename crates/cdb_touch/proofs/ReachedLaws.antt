@@ -11,7 +11,8 @@ use Rattle.cdb_source.specs.declared.source.Source.{Source}
 use Rattle.cdb_source.specs.Reached.{Reaches, Reached}
 
 -- one source more of which a fact doesn't hold, and all of them
-pub none_more : (P : Source → Type 0) (ss : List Source) (i : ℕ) (s : Source) → i < length ss → s ≡ get_or ss i s → All P (take i ss) → P s → All P (take (i + 1) ss)
+pub none_more : (P : Source → Type 0) (ss : List Source) (i : ℕ) (s : Source) → i < length ss → s ≡ get_or ss i s
+    → All P (take i ss) → P s → All P (take (i + 1) ss)
 none_more P ss i s lt is all here = All-more P ss i s lt all (subst P is here)
 
 pub none_of_all : (P : Source → Type 0) (ss : List Source) (i : ℕ) → length ss ≤ i → All P (take i ss) → All P ss
@@ -20,19 +21,25 @@ none_of_all P ss i le all = subst (All P) (take_all i ss le) all
 read_at : (ss : List Source) (i : ℕ) (s : Source) → i < length ss → s ≡ get_or ss i s → slice_get ss i ≡ Some s
 read_at ss i s lt is = slice_get-get_or ss i s lt ∙ ap (λ (x : Source). Some x) (sym is)
 
-pub reached_at : (t : Tile) (ss : List Source) (i : ℕ) (s : Source) → i < length ss → s ≡ get_or ss i s → Reaches s.head t → Reached (map (λ (source : Source). source.head) ss) t
+pub reached_at : (t : Tile) (ss : List Source) (i : ℕ) (s : Source) → i < length ss → s ≡ get_or ss i s
+    → Reaches s.head t → Reached (map (λ (source : Source). source.head) ss) t
 reached_at t ss i s lt is r = record {
   number = i;
   head = s.head;
-  there = slice_get-map (λ (source : Source). source.head) ss i ∙ ap (option_map (λ (source : Source). source.head)) (read_at ss i s lt is);
+  there = slice_get-map (λ (source : Source). source.head) ss i ∙ ap (option_map (λ (source : Source). source.head))
+      (read_at ss i s lt is);
   reaches = r;
 }
 
-no_head_there : (t : Tile) (ss : List Source) (n : ℕ) (h : SourceHead) → All (λ (s : Source). Reaches s.head t → ⊥) ss → slice_get (map (λ (source : Source). source.head) ss) n ≡ Some h → Reaches h t → ⊥
+no_head_there : (t : Tile) (ss : List Source) (n : ℕ) (h : SourceHead) → All (λ (s : Source). Reaches s.head t → ⊥) ss
+    → slice_get (map (λ (source : Source). source.head) ss) n ≡ Some h → Reaches h t → ⊥
 no_head_there t [] zero h all e r = cc
 no_head_there t [] (suc n) h all e r = cc
-no_head_there t (s ∷ ss) zero h all e r = let same : s.head ≡ h = cc in All-head (λ (s : Source). Reaches s.head t → ⊥) s ss all (subst (λ x. Reaches x t) (sym same) r)
-no_head_there t (s ∷ ss) (suc n) h all e r = no_head_there t ss n h (All-tail (λ (s : Source). Reaches s.head t → ⊥) s ss all) e r
+no_head_there t (s ∷ ss) zero h all e r = let same : s.head ≡ h = cc in
+    All-head (λ (s : Source). Reaches s.head t → ⊥) s ss all (subst (λ x. Reaches x t) (sym same) r)
+no_head_there t (s ∷ ss) (suc n) h all e r =
+    no_head_there t ss n h (All-tail (λ (s : Source). Reaches s.head t → ⊥) s ss all) e r
 
-pub none_reached : (t : Tile) (ss : List Source) → All (λ (s : Source). Reaches s.head t → ⊥) ss → Reached (map (λ (source : Source). source.head) ss) t → ⊥
+pub none_reached : (t : Tile) (ss : List Source) → All (λ (s : Source). Reaches s.head t → ⊥) ss
+    → Reached (map (λ (source : Source). source.head) ss) t → ⊥
 none_reached t ss all r = no_head_there t ss r.number r.head all r.there r.reaches

@@ -21,25 +21,39 @@ pub part_in_run : (first end n a size b : ℕ) → 1 ≤ size → a * size + b �
     → (first / size ≤ a) × (a < end / size + min 1 (end % size))
 part_in_run first end n a size b p e lt from to =
     let q : first / size * size + first % size ≡ first = div-add-mod' first size in
-    let t : (end ≤ (end / size + min 1 (end % size)) * size) × ((end / size + min 1 (end % size)) * size < end + size) = div_ceil_times end size p in
+    let t : (end ≤ (end / size + min 1 (end % size)) * size) × ((end / size + min 1 (end % size)) * size < end + size) =
+    div_ceil_times end size p in
     let up : end ≤ (end / size + min 1 (end % size)) * size = t.0 in
     (at_most (first / size) a size (omega arith), less (end / size + min 1 (end % size)) a size (omega arith))
   where
     at_most : (x a s : ℕ) → x * s < a * s + s → x ≤ a
-    at_most x a s lt = elim (cases_lt a x) [ inl p ↦ let m : suc a * s ≤ x * s = mul-le-mul_right s p in absurd (omega arith) | inr p ↦ p ]
+    at_most x a s lt = elim (cases_lt a x) [
+      | inl p ↦ let m : suc a * s ≤ x * s = mul-le-mul_right s p in
+          absurd (omega arith)
+      | inr p ↦ p
+    ]
 
     less : (x a s : ℕ) → a * s < x * s → a < x
-    less x a s lt = elim (cases_lt a x) [ inl p ↦ p | inr p ↦ let m : x * s ≤ a * s = mul-le-mul_right s p in absurd (omega arith) ]
+    less x a s lt = elim (cases_lt a x) [
+      | inl p ↦ p
+      | inr p ↦ let m : x * s ≤ a * s = mul-le-mul_right s p in
+          absurd (omega arith)
+    ]
 
 -- so many parts hold a run
 pub parts_most : (end size all : ℕ) → 1 ≤ size → end ≤ all * size → end / size + min 1 (end % size) ≤ all
 parts_most end size all p le =
-    let t : (end ≤ (end / size + min 1 (end % size)) * size) × ((end / size + min 1 (end % size)) * size < end + size) = div_ceil_times end size p in
+    let t : (end ≤ (end / size + min 1 (end % size)) * size) × ((end / size + min 1 (end % size)) * size < end + size) =
+    div_ceil_times end size p in
     let high : (end / size + min 1 (end % size)) * size < end + size = t.1 in
     at_most (end / size + min 1 (end % size)) all size (omega arith)
   where
     at_most : (x a s : ℕ) → x * s < a * s + s → x ≤ a
-    at_most x a s lt = elim (cases_lt a x) [ inl p ↦ let m : suc a * s ≤ x * s = mul-le-mul_right s p in absurd (omega arith) | inr p ↦ p ]
+    at_most x a s lt = elim (cases_lt a x) [
+      | inl p ↦ let m : suc a * s ≤ x * s = mul-le-mul_right s p in
+          absurd (omega arith)
+      | inr p ↦ p
+    ]
 
 -- the rows of tiles in a row of geocells
 pub number_in_row : (t : Tile) (h y : ℕ) → tile_height t ≡ h → row_of t.cell.lat ≡ y
@@ -51,7 +65,8 @@ number_in_row t h y eh ey =
     bounds a n b y m en ea lt =
         let e : a * n ≡ y * m = ap (λ k. k * n) ea ∙ ap (λ k. y * k) en in (omega arith, omega arith)
 
-pub row_of_number : (t : Tile) (h y : ℕ) → tile_height t ≡ h → y * tiles_of h ≤ row_number t → row_number t < y * tiles_of h + tiles_of h
+pub row_of_number : (t : Tile) (h y : ℕ) → tile_height t ≡ h → y * tiles_of h ≤ row_number t
+    → row_number t < y * tiles_of h + tiles_of h
     → row_of t.cell.lat ≡ y
 row_of_number t h y eh low high =
     one (row_of t.cell.lat) (tiles_of (tile_height t)) t.up y (tiles_of h) (ap tiles_of eh) t.up_in_range low high
@@ -72,20 +87,24 @@ row_of_number t h y eh low high =
 
 -- the geocells of the tiles of a height that a source reaches
 pub geocell_in_run : (head : SourceHead) (h first end size : ℕ) (t : Tile) → size ≡ tiles_of h → 1 ≤ size
-    → ((n : ℕ) → n < 180 * tiles_of h → HasRow head h n ↔ ((first ≤ n) × (n < end))) → Reaches head t → tile_height t ≡ h
+    → ((n : ℕ) → n < 180 * tiles_of h → HasRow head h n ↔ ((first ≤ n) × (n < end))) → Reaches head t
+    → tile_height t ≡ h
     → (first / size ≤ row_of t.cell.lat) × (row_of t.cell.lat < end / size + min 1 (end % size))
 geocell_in_run head h first end size t es p each r eh =
     let has : HasRow head h (row_number t) = subst (λ k. HasRow head k (row_number t)) eh (reaches_to head t r).0 in
-    let below : row_number t < 180 * tiles_of h = subst (λ k. row_number t < 180 * tiles_of k) eh (row_number-below t) in
+    let below : row_number t < 180 * tiles_of h = subst (λ k. row_number t < 180 * tiles_of k) eh
+    (row_number-below t) in
     let b : (first ≤ row_number t) × (row_number t < end) = (each (row_number t) below).0 has in
     let e : tiles_of (tile_height t) ≡ size = ap tiles_of eh ∙ sym es in
     let up : t.up < size = subst (λ k. t.up < k) e t.up_in_range in
-    part_in_run first end (row_number t) (row_of t.cell.lat) size t.up p (ap (λ k. row_of t.cell.lat * k + t.up) (sym e)) up b.0 b.1
+    part_in_run first end (row_number t) (row_of t.cell.lat) size t.up p
+    (ap (λ k. row_of t.cell.lat * k + t.up) (sym e)) up b.0 b.1
 
 pub rectangle_exact : (head : SourceHead) (f : Family) (h y : ℕ) (rows within columns : Run) (t : Tile)
     → head.kind ≡ kind_of f → source_height head ≤ h → y < 180
     → ((n : ℕ) → n < 180 * tiles_of h → HasRow head h n ↔ ((rows.first ≤ n) × (n < rows.end)))
-    → ((n : ℕ) → n < 360 / width_at y * tiles_of h → HasColumn head h (width_at y) n ↔ ((columns.first ≤ n) × (n < columns.end)))
+    → ((n : ℕ) → n < 360 / width_at y * tiles_of h → HasColumn head h (width_at y) n
+    ↔ ((columns.first ≤ n) × (n < columns.end)))
     → within.first ≡ max rows.first (y * tiles_of h) → within.end ≡ min rows.end (y * tiles_of h + tiles_of h)
     → IsInRectangle f h within columns t ↔ IsOfRow head f h y t
 rectangle_exact head f h y rows within columns t ek fine yb each_row each_column low high = (to, from)
@@ -101,11 +120,13 @@ rectangle_exact head f h y rows within columns t ek fine yb each_row each_column
     to i =
         let a = i.row_from in let b = i.row_below in let eh = i.height_is in
         let ey : row_of t.cell.lat ≡ y = row_of_number t h y eh (omega arith) (omega arith) in
-        let has_row : HasRow head h (row_number t) = (each_row (row_number t) (below eh)).1 (omega arith, omega arith) in
+        let has_row : HasRow head h (row_number t) =
+        (each_row (row_number t) (below eh)).1 (omega arith, omega arith) in
         let has_column : HasColumn head h (width_at y) (column_number t) =
         (each_column (column_number t) (below_east eh ey)).1 (i.column_from, i.column_below) in
         record {
-          reaches = reaches_from head t (ek ∙ ap kind_of (sym i.family_is)) (subst (λ k. source_height head ≤ k) (sym eh) fine)
+          reaches = reaches_from head t (ek ∙ ap kind_of (sym i.family_is))
+              (subst (λ k. source_height head ≤ k) (sym eh) fine)
               (subst (λ k. HasRow head k (row_number t)) (sym eh) has_row)
               (subst (λ k. HasColumn head (tile_height t) (width_at k) (column_number t)) (sym ey)
               (subst (λ k. HasColumn head k (width_at y) (column_number t)) (sym eh) has_column));

@@ -1,4 +1,5 @@
--- Inside the crate: one tile made from frames: from the tiles of the next finer level under it, from sources of its own level, and from
+-- Inside the crate: one tile made from frames: from the tiles of the next finer level under it, from sources of its own
+-- level, and from
 use Rattle.std.specs.Prelude.{ℕ, ◌-◌, ℤ, List}
 use Rattle.std.specs.Option.{option_or}
 use Rattle.cdb_grid.specs.Frames.{number_in}

@@ -16,9 +16,11 @@ post_in kind row col = value_of kind (number_in row col)
 abbrev pub mean_rule : ℕ → ℕ → ℕ → ℕ → ℕ → List ℤ → List ℤ → ℕ → ℤ → ℤ
 mean_rule m n a start stride low high c old =
     coded Elevation (option_or (value_of Elevation old)
-    (mean_of_four m n a ((start + c * stride) % n) (post_in Elevation low ((start + c * stride) / n)) (post_in Elevation low ((start + c * stride) / n + 1))
+    (mean_of_four m n a ((start + c * stride) % n) (post_in Elevation low ((start + c * stride) / n))
+    (post_in Elevation low ((start + c * stride) / n + 1))
     (post_in Elevation high ((start + c * stride) / n)) (post_in Elevation high ((start + c * stride) / n + 1))))
 
 -- a row of materials, in a row of cells
 abbrev pub cell_rule : ℕ → ℕ → ℕ → List ℤ → ℕ → ℤ → ℤ
-cell_rule n start stride row c old = coded Material (option_or (value_of Material old) (post_in Material row ((start + c * stride) / n)))
+cell_rule n start stride row c old =
+    coded Material (option_or (value_of Material old) (post_in Material row ((start + c * stride) / n)))

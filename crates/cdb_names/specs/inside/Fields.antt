@@ -1,4 +1,5 @@
--- Inside the crate: the fields of names and paths, each read from the front of a text: its value, and the rest of the text.
+-- Inside the crate: the fields of names and paths, each read from the front of a text: its value, and the rest of the
+-- text.
 use Rattle.std.specs.Prelude.{ℕ, ◌+◌, ◌-◌, ◌*◌, ℤ, negsuc, ◌&&◌, drop, codes, Option, Some, None, option_map, option_and_then, nat_eq, nat_lt, nat_le, if◌then◌else◌}
 use Rattle.std.specs.List.{starts_with}
 use Rattle.cdb_model.specs.Names.{Text}
@@ -19,7 +20,8 @@ four_at text = do
 
 -- a version from 1 to 4,096, in eight digits
 abbrev pub version_of : ℕ → ℕ → Option ℕ
-version_of high low = if nat_lt 0 (high * 10000 + low) && nat_le (high * 10000 + low) MOST_VERSIONS then Some (high * 10000 + low) else None
+version_of high low = if nat_lt 0 (high * 10000 + low) && nat_le (high * 10000 + low) MOST_VERSIONS
+    then Some (high * 10000 + low) else None
 
 unfoldable pub version_at : Text → Option (ℕ × Text)
 version_at text = do
@@ -54,7 +56,8 @@ fine_folder_at text = do
 
 -- a level of the folder: -1 stands for all below 0
 unfoldable pub level_folder_at : Text → Option (ℤ × Text)
-level_folder_at text = if starts_with nat_eq text (codes "LC/") then Some (negsuc 0, drop 3 text) else slashed (fine_folder_at text)
+level_folder_at text = if starts_with nat_eq text (codes "LC/") then Some (negsuc 0, drop 3 text)
+    else slashed (fine_folder_at text)
 
 unfoldable pub up_folder_at : ℕ → Text → Option (ℕ × Text)
 up_folder_at limit text = slashed (numbered_at (codes "U") limit text)

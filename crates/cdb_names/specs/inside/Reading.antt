@@ -18,7 +18,11 @@ folders_at text = do
   dataset ← field_or_place text lon.1 (dataset_folder_at lon.1)
   level ← field_or_place text dataset.1 (level_folder_at dataset.1)
   up ← field_or_place text level.1 (up_folder_at (across level.0) level.1)
-  Ok (version.0, record { lat = lat.0; lon = lon.0; dataset = dataset.0; level = level_folder_of level.0; up = up.0 }, up.1)
+  Ok (
+    version.0,
+    record { lat = lat.0; lon = lon.0; dataset = dataset.0; level = level_folder_of level.0; up = up.0 },
+    up.1,
+  )
 
 -- the version and the tile whose path the text is, or the place of the first wrong field
 unfoldable pub path_at : Text → Result (ℕ × Spelled) NameError

@@ -30,6 +30,9 @@ own_of MostFrequent ss h c = newest_own Material ss h (centre h c)
 
 -- the summary of a cell's own value and four finer ones
 abbrev pub combined : Summary → Option ℤ → Four → Option ℤ
-combined Least own four = lesser own (lesser (lesser four.south_west four.south_east) (lesser four.north_west four.north_east))
-combined Greatest own four = greater own (greater (greater four.south_west four.south_east) (greater four.north_west four.north_east))
-combined MostFrequent own four = option_or (mode_of_four four.south_west four.south_east four.north_west four.north_east) own
+combined Least own four =
+    lesser own (lesser (lesser four.south_west four.south_east) (lesser four.north_west four.north_east))
+combined Greatest own four =
+    greater own (greater (greater four.south_west four.south_east) (greater four.north_west four.north_east))
+combined MostFrequent own four =
+    option_or (mode_of_four four.south_west four.south_east four.north_west four.north_east) own

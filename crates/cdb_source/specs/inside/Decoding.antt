@@ -1,4 +1,5 @@
--- Inside the crate: what a source file of other bytes than a source's is told to be: the first of its parts that isn't of the form.
+-- Inside the crate: what a source file of other bytes than a source's is told to be: the first of its parts that isn't
+-- of the form.
 use Rattle.std.specs.Prelude.{◌≡◌, ℕ, ◌+◌, ◌*◌, ◌<◌, ℤ, List, All}
 use Rattle.cdb_source.specs.declared.kind.Kind.{Kind}
 use Rattle.cdb_source.specs.declared.decode_error.DecodeError.{DecodeError}
@@ -16,4 +17,5 @@ pub record ReadsPosts (kind : Kind) (text : List ℕ) (posts : List ℤ) : Type 
 -- what an error says of a text of so many posts
 abbrev pub TellsPost : Kind → List ℕ → ℕ → DecodeError → Type 0
 TellsPost kind text count Memory = Unit {0}
-TellsPost kind text count (Bad place) = (k : ℕ) × ((k < count) × IsBadPost kind text k × (place ≡ SOURCE_FRONT_BYTES + 2 * k))
+TellsPost kind text count (Bad place) = (k : ℕ)
+    × ((k < count) × IsBadPost kind text k × (place ≡ SOURCE_FRONT_BYTES + 2 * k))

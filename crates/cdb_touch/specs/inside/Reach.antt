@@ -12,7 +12,8 @@ use Rattle.cdb_touch.specs.inside.Axis.{HasPlaceOnAxis}
 -- the row of tiles of a height with this number has a place of the source's level in its box
 abbrev pub HasRow : SourceHead → ℕ → ℕ → Type 0
 HasRow head h number =
-    HasPlaceOnAxis head.kind (step (source_height head)) (corner_of head).north ((corner_of head).north + box_height head)
+    HasPlaceOnAxis head.kind (step (source_height head))
+    (corner_of head).north ((corner_of head).north + box_height head)
     (side_of h * step h) number
 
 -- the same of a column of tiles of a height, where geocells have a width

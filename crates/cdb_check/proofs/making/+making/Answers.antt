@@ -108,7 +108,8 @@ fold_children-loop-child-preserved t c start plain begun =
 pub fold_children-returns : goal.fold_children-returns
 fold_children-returns t c start plain begun =
     let ss = c.args.sources.now in let items : List Tile = c.args.finer.now in
-    let end : take c.loop-child.child-index items ≡ items = take_all c.loop-child.child-index items c.loop-child-test.false in
+    let end : take c.loop-child.child-index items ≡ items =
+    take_all c.loop-child.child-index items c.loop-child-test.false in
     all_folded ss c.args.tile.now start items c.loop-child.frame c.requires.finer
     (subst (λ xs. IsFolded ss c.args.tile.now start xs c.loop-child.frame) end
     (c.loop-child.invariant start plain begun))

@@ -16,9 +16,13 @@ returns-in-Ok-try_get_matches_from-clause-ok c =
     let rows : rows_of (found_of m) ≡ matches_of options_app words =
     (c.in-Ok-try_get_matches_from.ensures.matches (ap is_simple is ∙ simple)).0 ∙ ap (λ a. matches_of a words) is in
     record {
-      taken = sym (ap (λ a. fault_of a words) is) ∙ c.in-Ok-try_get_matches_from.ensures.kinds (ap is_simple_and_free is ∙ free);
+      taken = sym (ap (λ a. fault_of a words) is)
+          ∙ c.in-Ok-try_get_matches_from.ensures.kinds (ap is_simple_and_free is ∙ free);
       mode = c.get_str.ensures ∙ first_value-rows (found_of m) (codes "mode") ∙ ap (first_of (codes "mode")) rows;
-      background = c.get_str-in-Ok-try_get_matches_from.ensures ∙ first_value-rows (found_of m) (codes "background") ∙ ap (first_of (codes "background")) rows;
-      start = c.get_str-in-Ok-try_get_matches_from-2.ensures ∙ first_value-rows (found_of m) (codes "start") ∙ ap (first_of (codes "start")) rows;
-      count = c.get_str-in-Ok-try_get_matches_from-3.ensures ∙ first_value-rows (found_of m) (codes "count") ∙ ap (first_of (codes "count")) rows;
+      background = c.get_str-in-Ok-try_get_matches_from.ensures ∙ first_value-rows (found_of m) (codes "background")
+          ∙ ap (first_of (codes "background")) rows;
+      start = c.get_str-in-Ok-try_get_matches_from-2.ensures ∙ first_value-rows (found_of m) (codes "start")
+          ∙ ap (first_of (codes "start")) rows;
+      count = c.get_str-in-Ok-try_get_matches_from-3.ensures ∙ first_value-rows (found_of m) (codes "count")
+          ∙ ap (first_of (codes "count")) rows;
     }

@@ -10,7 +10,8 @@ near : (c : goal.After-quotient) → IsNear c.args.total c.args.weight
 near c = record { least = c.requires.weight; most = c.requires.most; near = c.requires.near }
 
 is_rounded : (c : goal.After-quotient) → c.quotient.result ≡ rounded c.args.weight c.args.total
-is_rounded c = let fits : SFits w128 c.args.total = search rules in rw (to_z-of_z w128 c.args.total fits) at c.quotient.ensures
+is_rounded c = let fits : SFits w128 c.args.total = search rules in
+    rw (to_z-of_z w128 c.args.total fits) at c.quotient.ensures
 
 pub overflow_cast-result : goal.overflow_cast-result
 overflow_cast-result c = back_fits c.quotient.result c.args.total c.args.weight (near c) (is_rounded c)

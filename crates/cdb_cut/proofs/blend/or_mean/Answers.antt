@@ -35,7 +35,8 @@ returns-then-se-eq-NONE g c =
       ne16 = (omega (arith, ints), omega (arith, ints));
     } in
     south_east_lost at.dlat at.dlon at.above c.args.beyond c.args.sw c.args.se c.args.nw c.args.ne four c.args.old
-    (omega (arith, ints, c.if-old-ne-NONE.false)) (λ e. omega (arith, ints, c.if-sw-eq-NONE.false, e)) (omega (arith, ints, c.if-se-eq-NONE.true))
+    (omega (arith, ints, c.if-old-ne-NONE.false)) (λ e. omega (arith, ints, c.if-sw-eq-NONE.false, e))
+    (omega (arith, ints, c.if-se-eq-NONE.true))
 
 pub returns-then-nw-eq-NONE : goal.returns-then-nw-eq-NONE
 returns-then-nw-eq-NONE g c =
@@ -51,7 +52,8 @@ returns-then-nw-eq-NONE g c =
       ne16 = (omega (arith, ints), omega (arith, ints));
     } in
     north_west_lost at.dlat at.dlon at.above c.args.beyond c.args.sw c.args.se c.args.nw c.args.ne four c.args.old
-    (omega (arith, ints, c.if-old-ne-NONE.false)) (λ e. omega (arith, ints, c.if-sw-eq-NONE.false, e)) (omega (arith, ints, c.if-nw-eq-NONE.true))
+    (omega (arith, ints, c.if-old-ne-NONE.false)) (λ e. omega (arith, ints, c.if-sw-eq-NONE.false, e))
+    (omega (arith, ints, c.if-nw-eq-NONE.true))
 
 pub returns-then-ne-eq-NONE : goal.returns-then-ne-eq-NONE
 returns-then-ne-eq-NONE g c =
@@ -67,7 +69,8 @@ returns-then-ne-eq-NONE g c =
       ne16 = (omega (arith, ints), omega (arith, ints));
     } in
     north_east_lost at.dlat at.dlon at.above c.args.beyond c.args.sw c.args.se c.args.nw c.args.ne four c.args.old
-    (omega (arith, ints, c.if-old-ne-NONE.false)) (λ e. omega (arith, ints, c.if-se-eq-NONE.false, e)) (λ e. omega (arith, ints, c.if-nw-eq-NONE.false, e)) (omega (arith, ints, c.if-ne-eq-NONE.true))
+    (omega (arith, ints, c.if-old-ne-NONE.false)) (λ e. omega (arith, ints, c.if-se-eq-NONE.false, e))
+    (λ e. omega (arith, ints, c.if-nw-eq-NONE.false, e)) (omega (arith, ints, c.if-ne-eq-NONE.true))
 
 pub returns : goal.returns
 returns g c =
@@ -87,8 +90,16 @@ returns g c =
     let se : SFits w16 c.args.se = search rules in
     let nw : SFits w16 c.args.nw = search rules in
     let ne : SFits w16 c.args.ne = search rules in
-    let is = rw (to_z-of_z w16 c.args.sw sw, to_z-of_z w16 c.args.se se, to_z-of_z w16 c.args.nw nw, to_z-of_z w16 c.args.ne ne) at c.mean.ensures in
+    let is =
+    rw (
+      to_z-of_z w16 c.args.sw sw,
+      to_z-of_z w16 c.args.se se,
+      to_z-of_z w16 c.args.nw nw,
+      to_z-of_z w16 c.args.ne ne,
+    ) at c.mean.ensures in
     to_z-of_z w16 c.mean.result fits
-    ∙ all_there at.dlat at.dlon at.above c.args.beyond c.args.sw c.args.se c.args.nw c.args.ne four c.args.old c.mean.result
-    (omega (arith, ints, c.if-old-ne-NONE.false)) (λ e. omega (arith, ints, c.if-sw-eq-NONE.false, e)) (λ e. omega (arith, ints, c.if-se-eq-NONE.false, e))
+    ∙ all_there at.dlat at.dlon at.above c.args.beyond c.args.sw c.args.se c.args.nw c.args.ne four
+    c.args.old c.mean.result
+    (omega (arith, ints, c.if-old-ne-NONE.false)) (λ e. omega (arith, ints, c.if-sw-eq-NONE.false, e))
+    (λ e. omega (arith, ints, c.if-se-eq-NONE.false, e))
     (λ e. omega (arith, ints, c.if-nw-eq-NONE.false, e)) (λ e. omega (arith, ints, c.if-ne-eq-NONE.false, e)) is

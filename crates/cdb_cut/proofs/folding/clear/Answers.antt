@@ -15,8 +15,11 @@ pub loop-k-preserved : goal.loop-k-preserved
 loop-k-preserved c =
     let fits : SFits w16 c.no_value-none.result = search rules in
     rw (to_z-of_z w16 c.no_value-none.result fits)
-    (row-more (λ k old. none_of (kind_of c.args.tile.now.family)) c.loop-k.k c.args.frame.now c.loop-k.frame c.no_value-none.result (omega arith) c.loop-k.invariant (c.no_value-none.ensures ∙ ap none_of c.kind_of.ensures))
+    (row-more (λ k old. none_of (kind_of c.args.tile.now.family))
+    c.loop-k.k c.args.frame.now c.loop-k.frame c.no_value-none.result (omega arith)
+    c.loop-k.invariant (c.no_value-none.ensures ∙ ap none_of c.kind_of.ensures))
 
 pub returns : goal.returns
 returns c ss = let t = c.loop-k-test.false in
-    cleared c.args.tile.now (none_of (kind_of c.args.tile.now.family)) c.loop-k.k c.args.frame.now c.loop-k.frame refl c.requires (omega (arith, t, c.loop-k.invariant.size)) c.loop-k.invariant ss
+    cleared c.args.tile.now (none_of (kind_of c.args.tile.now.family)) c.loop-k.k c.args.frame.now c.loop-k.frame refl
+    c.requires (omega (arith, t, c.loop-k.invariant.size)) c.loop-k.invariant ss

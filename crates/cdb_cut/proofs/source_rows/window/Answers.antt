@@ -29,16 +29,26 @@ returns c =
     let wide : cols.first < cols.end = omega arith in
     let far_of : ℕ → ℕ → ℕ = λ k s. p.north + k * p.up - s in
     let near_looks : LooksAt head.kind (row_step head) (far_of rows.first (corner_of head).north) r.first =
-    subst (λ s. LooksAt head.kind (row_step head) (far_of rows.first s) r.first) south (subst (λ m. LooksAt head.kind m (far_of rows.first c.south-south.result) r.first) step c.rows_between.ensures.first_looked) in
-    let far_looks : LooksAt head.kind (row_step head) (far_of (rows.end - 1) (corner_of head).north) (r.first + r.count - 1) =
-    subst (λ s. LooksAt head.kind (row_step head) (far_of (rows.end - 1) s) (r.first + r.count - 1)) south (subst (λ m. LooksAt head.kind m (far_of (rows.end - 1) c.south-south.result) (r.first + r.count - 1)) step c.rows_between.ensures.last_looked) in
+    subst (λ s. LooksAt head.kind (row_step head) (far_of rows.first s) r.first) south
+    (subst (λ m. LooksAt head.kind m (far_of rows.first c.south-south.result) r.first)
+    step c.rows_between.ensures.first_looked) in
+    let far_looks : LooksAt head.kind (row_step head) (far_of (rows.end - 1) (corner_of head).north)
+    (r.first + r.count - 1) =
+    subst (λ s. LooksAt head.kind (row_step head) (far_of (rows.end - 1) s) (r.first + r.count - 1)) south
+    (subst (λ m. LooksAt head.kind m (far_of (rows.end - 1) c.south-south.result) (r.first + r.count - 1))
+    step c.rows_between.ensures.last_looked) in
     record {
       kind = kind;
       some = c.rows_between.ensures.some;
-      first_looked = looked_at head t p.north p.east p.up p.right rows.first rows.end cols.first cols.end runs rows.first cols.first r.first (omega arith) some (omega arith) wide near_looks;
-      last_looked = looked_at head t p.north p.east p.up p.right rows.first rows.end cols.first cols.end runs (rows.end - 1) cols.first (r.first + r.count - 1) (omega arith) (omega arith) (omega arith) wide far_looks;
-      all = λ row l. looked_from head t p.north p.east p.up p.right rows.first rows.end cols.first cols.end runs row l r.first r.count
-          (λ far n low high looks. c.rows_between.ensures.all far n (subst (λ s. far_of rows.first s ≤ far) (sym south) low) (subst (λ s. far ≤ far_of (rows.end - 1) s) (sym south) high)
+      first_looked = looked_at head t p.north p.east p.up p.right rows.first rows.end cols.first cols.end runs
+          rows.first cols.first r.first (omega arith) some (omega arith) wide near_looks;
+      last_looked = looked_at head t p.north p.east p.up p.right rows.first rows.end cols.first cols.end runs
+          (rows.end - 1) cols.first (r.first + r.count - 1) (omega arith) (omega arith) (omega arith) wide far_looks;
+      all = λ row l. looked_from head t p.north p.east p.up p.right rows.first rows.end cols.first cols.end runs row l
+          r.first r.count
+          (λ far n low high looks. c.rows_between.ensures.all far n
+          (subst (λ s. far_of rows.first s ≤ far) (sym south) low)
+          (subst (λ s. far ≤ far_of (rows.end - 1) s) (sym south) high)
           (subst (λ m. LooksAt head.kind m far n) (sym step) looks));
       within = c.rows_between.ensures.within;
     }

@@ -14,7 +14,8 @@ east_is x x' k n s v w ex ek ev =
     let ring : x' * degree + n * s * w ≡ x' * degree + n * (w * s) = omega arith in
     ap (λ y. y * degree + k * v) ex ∙ ap (λ y. x' * degree + y * v) ek ∙ ap (λ y. x' * degree + n * s * y) ev ∙ ring
 
-east_most : (x x' k s v w : ℕ) → x ≡ x' → v ≡ w → x' + w ≤ 360 → k + s ≤ degree → x * degree + k * v + w * s ≤ 360 * degree
+east_most : (x x' k s v w : ℕ) → x ≡ x' → v ≡ w → x' + w ≤ 360 → k + s ≤ degree
+    → x * degree + k * v + w * s ≤ 360 * degree
 east_most x x' k s v w ex ev wide ends =
     let m : (k + s) * w ≤ degree * w = mul-le-mul_right w ends in
     let e : k * v ≡ k * w = ap (λ y. k * y) ev in
@@ -26,4 +27,6 @@ returns-clause-corner c =
     (east_is _ _ _ _ _ _ _ c.column.ensures.value c.along-2.ensures.value c.width.ensures.value)
 
 pub returns-clause-east : goal.returns-clause-east
-returns-clause-east c = east_most _ _ _ _ _ _ c.column.ensures.value c.width.ensures.value (columns_within c.args.tile.now) c.along-2.ensures.most
+returns-clause-east c =
+    east_most _ _ _ _ _ _ c.column.ensures.value c.width.ensures.value (columns_within c.args.tile.now)
+    c.along-2.ensures.most

@@ -19,18 +19,22 @@ north_is n a a' i i' is ea ei = omega arith
 east_is : (n a a' i i' v w w' : ℕ) → n ≡ a + i * v → a ≡ a' → i ≡ i' → v ≡ w → w' ≡ w → n ≡ a' + w' * i'
 east_is n a a' i i' v w w' is ea ei ev ew =
     let ring : a' + i' * w ≡ a' + w * i' = omega arith in
-    is ∙ ap (λ y. y + i * v) ea ∙ ap (λ y. a' + y * v) ei ∙ ap (λ y. a' + i' * y) ev ∙ ring ∙ ap (λ y. a' + y * i') (sym ew)
+    is ∙ ap (λ y. y + i * v) ea ∙ ap (λ y. a' + y * v) ei ∙ ap (λ y. a' + i' * y) ev ∙ ring
+    ∙ ap (λ y. a' + y * i') (sym ew)
 
 pub arcs-requires-clause-east : goal.arcs-requires-clause-east
 arcs-requires-clause-east c =
-    east_below _ _ _ _ _ _ c.corner-north.ensures.east c.inset-inset.ensures.most c.width.ensures.value c.width.ensures.least
+    east_below _ _ _ _ _ _ c.corner-north.ensures.east c.inset-inset.ensures.most c.width.ensures.value
+    c.width.ensures.least
 
 pub returns-clause-place : goal.returns-clause-place
 returns-clause-place c =
     let t = c.args.tile.now in
     same_place _ _
-    (north_is _ _ _ _ _ c.arcs.ensures.north (ap (λ (p : Place). p.north) c.corner-north.ensures.corner) c.inset-inset.ensures.value)
-    (east_is _ _ _ _ _ _ _ _ c.arcs.ensures.east (ap (λ (p : Place). p.east) c.corner-north.ensures.corner) c.inset-inset.ensures.value
+    (north_is _ _ _ _ _ c.arcs.ensures.north (ap (λ (p : Place). p.north) c.corner-north.ensures.corner)
+    c.inset-inset.ensures.value)
+    (east_is _ _ _ _ _ _ _ _ c.arcs.ensures.east (ap (λ (p : Place). p.east) c.corner-north.ensures.corner)
+    c.inset-inset.ensures.value
     c.width.ensures.value (width_of-element t c.args.row c.args.col c.requires.row))
     ∙ sym (place-inset t.family (tile_height t) (element_corner t c.args.row c.args.col))
 

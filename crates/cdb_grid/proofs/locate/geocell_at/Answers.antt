@@ -5,7 +5,8 @@ use Rattle.cdb_grid.proofs.TileLaws.{multiple_below, one_geocell}
 use Rattle.cdb_grid.proofs.locate.geocell_at.Goals as goal
 
 pub geocell-requires-clause-on_grid : goal.geocell-requires-clause-on_grid
-geocell-requires-clause-on_grid c = multiple_below _ _ _ c.width_of_row-width.ensures.value c.width_of_row-width.ensures.least
+geocell-requires-clause-on_grid c =
+    multiple_below _ _ _ c.width_of_row-width.ensures.value c.width_of_row-width.ensures.least
 
 pub returns-clause-only : goal.returns-clause-only
 returns-clause-only c = λ g on inside.

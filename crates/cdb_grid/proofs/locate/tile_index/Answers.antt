@@ -6,7 +6,8 @@ use Rattle.cdb_grid.specs.Units.{degree, height_of, tiles_of}
 use Rattle.cdb_grid.proofs.UnitLaws.{all_rows, height-most, tiles-le}
 use Rattle.cdb_grid.proofs.locate.tile_index.Goals as goal
 
-below : (w e side s tiles offset : ℕ) → 1 ≤ w → 1 ≤ e → e ≡ side * s → tiles * side * s ≡ degree → offset < w * degree → offset / (w * e) < tiles
+below : (w e side s tiles offset : ℕ) → 1 ≤ w → 1 ≤ e → e ≡ side * s → tiles * side * s ≡ degree → offset < w * degree
+    → offset / (w * e) < tiles
 below w e side s tiles offset p q x y lt =
     let r : 1 * 1 ≤ w * e = mul-le 1 1 w e p q in
     let z : tiles * (w * (side * s)) ≡ w * (tiles * side * s) = omega arith in
@@ -44,4 +45,5 @@ pub returns-clause-low : goal.returns-clause-low
 returns-clause-low c = low c.args.width c.extent.result _ _ c.args.offset c.extent.ensures.value
 
 pub returns-clause-high : goal.returns-clause-high
-returns-clause-high c = high c.args.width c.extent.result _ _ c.args.offset c.requires.least c.extent.ensures.least c.extent.ensures.value
+returns-clause-high c =
+    high c.args.width c.extent.result _ _ c.args.offset c.requires.least c.extent.ensures.least c.extent.ensures.value

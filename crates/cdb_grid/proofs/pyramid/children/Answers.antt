@@ -34,7 +34,11 @@ whole c = let k = c.whole.ensures in
 
 pub returns-then-tile-lt0-clause-one : goal.returns-then-tile-lt0-clause-one
 returns-then-tile-lt0-clause-one c = λ below.
-    record { child = c.whole.result; are = item-one c; begins = whole-begins c.args.tile.now c.whole.result below (whole c) }
+    record {
+      child = c.whole.result;
+      are = item-one c;
+      begins = whole-begins c.args.tile.now c.whole.result below (whole c);
+    }
 
 pub returns-then-tile-lt0-clause-four : goal.returns-then-tile-lt0-clause-four
 returns-then-tile-lt0-clause-four c = λ from lt.
@@ -48,7 +52,8 @@ returns-then-tile-lt0-clause-fill c = λ lt p i.
     (0, c.whole.result, lit< tt, refl, whole-fills c.args.tile.now c.whole.result below (whole c) p i)
 
 items-four : (c : goal.After-push-else-tile-lt0-4) → c.push-else-tile-lt0-4.new.self.items
-    ≡ c.quarter-south_west.result ∷ c.quarter-south_east.result ∷ c.quarter-north_west.result ∷ c.quarter-north_east.result ∷ []
+    ≡ c.quarter-south_west.result ∷ c.quarter-south_east.result ∷ c.quarter-north_west.result
+    ∷ c.quarter-north_east.result ∷ []
 items-four c = pushed_four _ _ _ _ _ _ _ _ _ c.new-children.ensures c.push-else-tile-lt0.ensures.items
     c.push-else-tile-lt0-2.ensures.items c.push-else-tile-lt0-3.ensures.items c.push-else-tile-lt0-4.ensures.items
 
@@ -63,10 +68,34 @@ quarters c =
     let l = c.in-Some.ensures in
     record {
       from = from;
-      south_west = record { family = sw.family; cell = sw.cell; level = l ∙ sym sw.level; up = sw.up; right = sw.right };
-      south_east = record { family = se.family; cell = se.cell; level = l ∙ sym se.level; up = se.up; right = se.right };
-      north_west = record { family = nw.family; cell = nw.cell; level = l ∙ sym nw.level; up = nw.up; right = nw.right };
-      north_east = record { family = ne.family; cell = ne.cell; level = l ∙ sym ne.level; up = ne.up; right = ne.right };
+      south_west = record {
+        family = sw.family;
+        cell = sw.cell;
+        level = l ∙ sym sw.level;
+        up = sw.up;
+        right = sw.right;
+      };
+      south_east = record {
+        family = se.family;
+        cell = se.cell;
+        level = l ∙ sym se.level;
+        up = se.up;
+        right = se.right;
+      };
+      north_west = record {
+        family = nw.family;
+        cell = nw.cell;
+        level = l ∙ sym nw.level;
+        up = nw.up;
+        right = nw.right;
+      };
+      north_east = record {
+        family = ne.family;
+        cell = ne.cell;
+        level = l ∙ sym ne.level;
+        up = ne.up;
+        right = ne.right;
+      };
     }
 
 pub returns-else-tile-lt0-clause-four : goal.returns-else-tile-lt0-clause-four

@@ -13,6 +13,8 @@ invariant_of-result c =
     let top = height-from t.level.number c.requires.from in
     let fine : h ≤ 23 = omega arith in
     record {
-      up_in_range = index_half h t.up c.args.north fine (subst (λ k. t.up < tiles_of k) e t.up_in_range) c.requires.north;
-      right_in_range = index_half h t.right c.args.east fine (subst (λ k. t.right < tiles_of k) e t.right_in_range) c.requires.east;
+      up_in_range = index_half h t.up c.args.north fine (subst (λ k. t.up < tiles_of k) e t.up_in_range)
+          c.requires.north;
+      right_in_range = index_half h t.right c.args.east fine (subst (λ k. t.right < tiles_of k) e t.right_in_range)
+          c.requires.east;
     }

@@ -30,10 +30,13 @@ loop-k-preserved c =
     let known : c.as_slice.result.now ≡ c.loop-k.tiles.items = c.as_slice.ensures.value in
     let items : c.push.new.self.items ≡ c.loop-k.tiles.items ++ c.in-Some.tile ∷ [] = c.in_ok-push.ensures.items in
     let asc : Ascending (c.as_slice.result.now ++ c.in-Some.tile ∷ []) = c.if-not-comes_after.ensures.yes refl in
-    let here : Ascending (c.loop-k.tiles.items ++ c.in-Some.tile ∷ []) = subst (λ (ts : List Tile). Ascending (ts ++ c.in-Some.tile ∷ [])) known asc in
+    let here : Ascending (c.loop-k.tiles.items ++ c.in-Some.tile ∷ []) =
+    subst (λ (ts : List Tile). Ascending (ts ++ c.in-Some.tile ∷ [])) known asc in
     let count : length c.loop-k.tiles.items ≡ c.loop-k.k = c.loop-k.invariant.count in
     record {
-      read = rw items (read_more c.args.bytes.now c.loop-k.rest.now c.in-Some.after.now c.loop-k.tiles.items c.in-Some.tile c.loop-k.invariant.read c.in-Some.ensures);
+      read = rw items
+          (read_more c.args.bytes.now c.loop-k.rest.now c.in-Some.after.now c.loop-k.tiles.items c.in-Some.tile
+          c.loop-k.invariant.read c.in-Some.ensures);
       count = rw items (length_push c.loop-k.tiles.items c.in-Some.tile ∙ ap (λ n. n + 1) count);
       ordered = subst (λ (ts : List Tile). Ascending ts) (sym items) here;
     }

@@ -24,7 +24,8 @@ returns-in_default-number_at-3-clause-bad c =
       fields = to_sources c.in-Some-number_at.version c.in-Some-number_at-2.sources;
       rest = c.in-Some-number_at-2.rest.now;
       of_form = ((version.0, version.1), (sources.0, sources.1));
-      begins = c.in-Some.ensures ∙ ap (λ (r : List ℕ). record_first_bytes ++ r) version.2 ∙ ap (λ (r : List ℕ). version_text c.in-Some-number_at.version ++ r) sources.2;
+      begins = c.in-Some.ensures ∙ ap (λ (r : List ℕ). record_first_bytes ++ r) version.2
+          ∙ ap (λ (r : List ℕ). version_text c.in-Some-number_at.version ++ r) sources.2;
       never = c.in_default-number_at-3.ensures;
       unfinished = λ whole. whole;
       place_is = refl;

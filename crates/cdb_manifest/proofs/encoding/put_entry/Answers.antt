@@ -11,7 +11,9 @@ unfolding entry_text
 returns c =
     let tile = c.args.tile.now in
     let old = c.args.out.now.items in
-    let first : c.family_number.result ∷ c.cast_unsigned-level.result ∷ c.cast_unsigned-lat.result ∷ 0 ∷ [] ≡ family_number c.args.tile.now.family ∷ cast_unsigned w8 c.args.tile.now.level.number ∷ cast_unsigned w8 c.args.tile.now.cell.lat ∷ 0 ∷ [] = search rules in
+    let first : c.family_number.result ∷ c.cast_unsigned-level.result ∷ c.cast_unsigned-lat.result ∷ 0 ∷ []
+    ≡ family_number c.args.tile.now.family ∷ cast_unsigned w8 c.args.tile.now.level.number
+    ∷ cast_unsigned w8 c.args.tile.now.cell.lat ∷ 0 ∷ [] = search rules in
     let lon : c.to_be_bytes.result ≡ to_be_bytes w16 (cast_unsigned w16 c.args.tile.now.cell.lon) = search rules in
     let up : c.to_be_bytes-2.result ≡ count_bytes c.args.tile.now.up = search rules in
     let right : c.to_be_bytes-3.result ≡ count_bytes c.args.tile.now.right = search rules in

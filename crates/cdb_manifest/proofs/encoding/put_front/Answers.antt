@@ -11,7 +11,8 @@ returns c =
     let version : c.to_be_bytes.result ≡ count_bytes c.args.item.now.version = search rules in
     let heads : c.to_be_bytes-2.result ≡ count_bytes (length c.args.item.now.heads) = search rules in
     let tiles : c.to_be_bytes-3.result ≡ count_bytes (length c.args.item.now.tiles) = search rules in
-    let s1 : c.extend_from_slice.new.self.items ≡ c.args.out.now.items ++ record_first_bytes = c.in_ok-extend_from_slice.ensures.items in
+    let s1 : c.extend_from_slice.new.self.items ≡ c.args.out.now.items ++ record_first_bytes =
+    c.in_ok-extend_from_slice.ensures.items in
     let s2 = more _ _ _ old record_first_bytes _ c.in_ok-extend_from_slice-2.ensures.items version s1 in
     let s3 = more _ _ _ old (version_text item.version) _ c.in_ok-extend_from_slice-3.ensures.items heads s2 in
     more _ _ _ old (sources_text item.version (length item.heads)) _ c.in_ok-extend_from_slice-4.ensures.items tiles s3

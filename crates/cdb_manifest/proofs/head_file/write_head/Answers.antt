@@ -12,8 +12,20 @@ unfolding encode
 feed = refl
 
 pub push_str-requires : goal.push_str-requires
-push_str-requires c = (lit< tt, omega (arith, few c.args.n c.requires.most, ap length c.new-text.ensures, ap length c.format.ensures.text))
+push_str-requires c = (
+  lit< tt,
+  omega (arith, few c.args.n c.requires.most, ap length c.new-text.ensures, ap length c.format.ensures.text),
+)
 
 pub push-requires : goal.push-requires
-push-requires c =
-    (lit< tt, omega (arith, feed, few c.args.n c.requires.most, c.push_str.ensures.len, ap length c.new-text.ensures, ap length c.format.ensures.text))
+push-requires c = (
+  lit< tt,
+  omega (
+    arith,
+    feed,
+    few c.args.n c.requires.most,
+    c.push_str.ensures.len,
+    ap length c.new-text.ensures,
+    ap length c.format.ensures.text,
+  ),
+)

@@ -14,7 +14,8 @@ pub returns-in_ok-note : goal.returns-in_ok-note
 returns-in_ok-note c s e =
     let f = c.in-MakeDir.folder in
     state_push c.args.folders.now.calls.items c.note.new.self.calls.items (MakeDir f) c.in_ok-note.ensures.ok
-    ∙ ap (after_make_dir f.bytes) e ∙ made-make_dir f.bytes s ∙ ap (λ call. only_made (apply call s)) (sym c.in-MakeDir.is)
+    ∙ ap (after_make_dir f.bytes) e ∙ made-make_dir f.bytes s
+    ∙ ap (λ call. only_made (apply call s)) (sym c.in-MakeDir.is)
 
 pub returns-in_default : goal.returns-in_default
 returns-in_default c s e = e ∙ made-other c.args.call.now s c.in_default.not-MakeDir

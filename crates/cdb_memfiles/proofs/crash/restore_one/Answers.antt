@@ -13,7 +13,8 @@ pub returns-in_ok-restore-clause-present : goal.returns-in_ok-restore-clause-pre
 returns-in_ok-restore-clause-present c =
     let p = c.args.entry.0.bytes in let s = replay c.args.after.now.calls.items in
     let more = c.in_ok-restore.ensures.ok in
-    ap (λ (t : State). t.present) (state_push c.args.after.now.calls.items c.restore.new.self.calls.items (Restore c.args.entry.0 more.0) more.2)
+    ap (λ (t : State). t.present)
+    (state_push c.args.after.now.calls.items c.restore.new.self.calls.items (Restore c.args.entry.0 more.0) more.2)
     ∙ present-restore p more.0.items s
     ∙ ap (λ (xs : List ℕ). put s.present p (Some xs)) more.1
     ∙ ap (λ (w : Content). restored_map p w s.present) c.in-Some.ensures
@@ -23,12 +24,14 @@ returns-in_ok-restore-clause-only c settled =
     let s = replay c.args.after.now.calls.items in
     let more = c.in_ok-restore.ensures.ok in
     let P : State → Type 0 = IsSettled in
-    subst P (sym (state_push c.args.after.now.calls.items c.restore.new.self.calls.items (Restore c.args.entry.0 more.0) more.2))
+    subst P (sym (state_push c.args.after.now.calls.items c.restore.new.self.calls.items (Restore c.args.entry.0 more.0)
+    more.2))
     (settled-restore c.args.entry.0.bytes more.0.items s settled)
 
 pub returns-in_ok-restore-clause-made : goal.returns-in_ok-restore-clause-made
 returns-in_ok-restore-clause-made c =
     let s = replay c.args.after.now.calls.items in
     let more = c.in_ok-restore.ensures.ok in
-    ap (λ (t : State). t.made) (state_push c.args.after.now.calls.items c.restore.new.self.calls.items (Restore c.args.entry.0 more.0) more.2)
+    ap (λ (t : State). t.made)
+    (state_push c.args.after.now.calls.items c.restore.new.self.calls.items (Restore c.args.entry.0 more.0) more.2)
     ∙ made-restore c.args.entry.0.bytes more.0.items s

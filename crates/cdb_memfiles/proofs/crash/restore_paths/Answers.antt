@@ -15,7 +15,8 @@ paths-preserved c =
     let P : (Text → Shown) → Type 0 = λ t. IsPicked goals (λ q. picked_shown pick (t q)) later in
     record {
       picks = subst P (sym (shown-update c.paths.rest c.pop_first.new.self p None c.in-Some.ensures.updates))
-          (picked-step pick goals (replay c.paths.after.calls.items).present later (shown c.paths.rest) p.bytes (picked_shown pick (shown_by c.in-Some.entry.1))
+          (picked-step pick goals (replay c.paths.after.calls.items).present later (shown c.paths.rest)
+          p.bytes (picked_shown pick (shown_by c.in-Some.entry.1))
           (ap (picked_shown pick) (shown-found c.paths.rest p (Some c.in-Some.entry.1) (sym c.in-Some.ensures.value)))
           c.in_ok-restore_one.ensures.present c.paths.invariant.picks);
       only = c.in_ok-restore_one.ensures.only c.paths.invariant.only;
@@ -27,4 +28,5 @@ returns-clause-present c =
     let pick = c.args.pick in
     let goals : FileMap = λ q. picked_shown pick (shown c.args.table q) in
     picked-end pick goals (replay c.paths.after.calls.items).present (shown c.paths.rest)
-    (shown-empty c.paths.rest (nil_from c.paths.rest.entries (λ more. let bad = c.in_default.ensures.variant.1 more in cc))) c.paths.invariant.picks
+    (shown-empty c.paths.rest (nil_from c.paths.rest.entries (λ more. let bad = c.in_default.ensures.variant.1 more in
+    cc))) c.paths.invariant.picks

@@ -6,7 +6,8 @@ use Rattle.cdb_memfiles.proofs.crash.restore_paths.Given as goal
 
 abbrev pub invariant-paths : goal.invariant-paths
 invariant-paths l = record {
-  picks : IsPicked (λ q. picked_shown l.pick (shown l.fn.table q)) (λ q. picked_shown l.pick (shown l.rest q)) (replay l.after.calls.items).present;
+  picks : IsPicked (λ q. picked_shown l.pick (shown l.fn.table q)) (λ q. picked_shown l.pick (shown l.rest q))
+      (replay l.after.calls.items).present;
   only : IsSettled (replay l.after.calls.items);
   made : (replay l.after.calls.items).made ≡ (replay l.fn.folders.calls.items).made;
 }

@@ -16,4 +16,5 @@ calls-init c =
 pub calls-preserved : goal.calls-preserved
 calls-preserved c =
     let P : State → Type 0 = ShowsFiles (shown c.follow.new.table) in
-    subst P (sym (replay-push c.calls.yielded c.in-Some.call)) (c.in_ok-follow.ensures (replay c.calls.yielded) c.calls.invariant)
+    subst P (sym (replay-push c.calls.yielded c.in-Some.call))
+    (c.in_ok-follow.ensures (replay c.calls.yielded) c.calls.invariant)

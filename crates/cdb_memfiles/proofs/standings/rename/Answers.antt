@@ -11,8 +11,12 @@ returns c =
     let z : Shown = ((old from).0, (put old from never_named to).1) in
     let is : shown_by c.replace.result ≡ z =
     c.replace.ensures
-    ∙ ap (λ (v : Content). let y : Shown = (v, (shown_by c.take-standing.result).1) in y) (ap (λ x. x.0) c.take-now.ensures.value)
-    ∙ ap (λ (x : Shown). let y : Shown = ((old from).0, x.1) in y) (c.take-standing.ensures.value ∙ ap (λ m. m to) c.take-now.ensures.rest) in
+    ∙ ap (λ (v : Content). let y : Shown = (v, (shown_by c.take-standing.result).1) in y)
+    (ap (λ x. x.0) c.take-now.ensures.value)
+    ∙ ap (λ (x : Shown). let y : Shown = ((old from).0, x.1) in y)
+    (c.take-standing.ensures.value ∙ ap (λ m. m to) c.take-now.ensures.rest) in
     let moved : shown c.store.new.table ≡ put one to z =
-    shown-again one two (shown c.store.new.table) to never_named (shown_by c.replace.result) z c.take-standing.ensures.rest c.in_ok-store.ensures is in
-    c.take.ensures.rest ∙ ap (λ m. put m from never_named) (moved ∙ ap (λ m. put m to z) c.take-now.ensures.rest) ∙ put-between old from to never_named never_named z
+    shown-again one two (shown c.store.new.table) to never_named (shown_by c.replace.result)
+    z c.take-standing.ensures.rest c.in_ok-store.ensures is in
+    c.take.ensures.rest ∙ ap (λ m. put m from never_named) (moved ∙ ap (λ m. put m to z) c.take-now.ensures.rest)
+    ∙ put-between old from to never_named never_named z

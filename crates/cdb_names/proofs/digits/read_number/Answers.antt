@@ -15,5 +15,6 @@ returns-clause-near c small =
     let front = c.split_at.ensures.front ∙ ap (λ (k : ℕ). take k c.args.text.now) c.digits_at.ensures.count in
     let back = c.split_at.ensures.back ∙ ap (λ (k : ℕ). drop k c.args.text.now) c.digits_at.ensures.count in
     let read = sym c.number.ensures ∙ c.in_ok-number.was in
-    let near = near_value c.args.limit c.args.text.now c.in_ok-number.field-0 small (ap (bounded_number c.args.limit) (sym front) ∙ read) in
+    let near = near_value c.args.limit c.args.text.now c.in_ok-number.field-0 small
+    (ap (bounded_number c.args.limit) (sym front) ∙ read) in
     omega (arith, near, ap length back)

@@ -10,4 +10,16 @@ push_number-requires c =
 
 pub returns-clause-bytes : goal.returns-clause-bytes
 returns-clause-bytes c =
-    rw (c.push_number.ensures.bytes, c.push_str-5.ensures.bytes, c.push_level_folder.ensures.bytes, c.push_str-4.ensures.bytes, c.push_dataset_folder.ensures.bytes, c.push_str-3.ensures.bytes, c.push_longitude.ensures.bytes, c.push_str-2.ensures.bytes, c.push_latitude.ensures.bytes, c.push_str.ensures.bytes, c.push_version.ensures.bytes) (simp append_assoc)
+    rw (
+      c.push_number.ensures.bytes,
+      c.push_str-5.ensures.bytes,
+      c.push_level_folder.ensures.bytes,
+      c.push_str-4.ensures.bytes,
+      c.push_dataset_folder.ensures.bytes,
+      c.push_str-3.ensures.bytes,
+      c.push_longitude.ensures.bytes,
+      c.push_str-2.ensures.bytes,
+      c.push_latitude.ensures.bytes,
+      c.push_str.ensures.bytes,
+      c.push_version.ensures.bytes,
+    ) (simp append_assoc)

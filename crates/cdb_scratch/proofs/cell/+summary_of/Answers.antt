@@ -8,15 +8,18 @@ use Rattle.cdb_scratch.proofs.CellLaws.{one_less, south_west_at, south_east_at, 
 use Rattle.cdb_scratch.proofs.cell.+summary_of.Goals as goal
 
 pub returns-then-height-eq0 : goal.returns-then-height-eq0
-returns-then-height-eq0 t c = summary_zero c.args.which (map sampled c.args.sources.now) c.args.height (record { north = c.args.north; east = c.args.east }) c.if-height-eq0.true
+returns-then-height-eq0 t c = summary_zero c.args.which (map sampled c.args.sources.now)
+    c.args.height (record { north = c.args.north; east = c.args.east }) c.if-height-eq0.true
 
 pub returns-then-not-is_cell_reached : goal.returns-then-not-is_cell_reached
 returns-then-not-is_cell_reached t c =
     let p : Place = record { north = c.args.north; east = c.args.east } in
     let kinds : c.kind.result ≡ summary_kind c.args.which = c.kind.ensures in
     let none : CellReached (summary_kind c.args.which) c.args.height p c.args.sources.now → ⊥ = λ r.
-    let yes = c.is_cell_reached.ensures.1 (subst (λ k. CellReached k c.args.height p c.args.sources.now) (sym kinds) r) in let f = c.if-not-is_cell_reached.true in cc in
-    sym (summary_none c.args.which c.args.height p c.args.sources.now c.requires.most c.requires.corner (none_reaches (summary_kind c.args.which) c.args.height p c.args.sources.now none))
+    let yes = c.is_cell_reached.ensures.1 (subst (λ k. CellReached k c.args.height p c.args.sources.now) (sym kinds) r)
+    in let f = c.if-not-is_cell_reached.true in cc in
+    sym (summary_none c.args.which c.args.height p c.args.sources.now c.requires.most c.requires.corner
+    (none_reaches (summary_kind c.args.which) c.args.height p c.args.sources.now none))
 
 pub summary_of-south_west-requires : goal.summary_of-south_west-requires
 summary_of-south_west-requires t c =
@@ -26,7 +29,8 @@ summary_of-south_west-requires t c =
       omega arith,
       (
         omega arith,
-        child_is_corner h (h - 1) 0 0 (record { north = c.args.north; east = c.args.east }) _ some c.requires.most none none c.requires.corner
+        child_is_corner h (h - 1) 0 0 (record { north = c.args.north; east = c.args.east }) _ some c.requires.most none
+            none c.requires.corner
             (south_west_at (h - 1) c.args.north c.args.east),
       ),
     )
@@ -39,8 +43,10 @@ summary_of-south_east-requires t c =
       omega arith,
       (
         omega arith,
-        child_is_corner h (h - 1) 0 1 (record { north = c.args.north; east = c.args.east }) _ some c.requires.most none one c.requires.corner
-            (south_east_at (h - 1) c.args.north c.args.east c.width.result c.step-2.result c.width.ensures.value c.step-2.ensures.value),
+        child_is_corner h (h - 1) 0 1 (record { north = c.args.north; east = c.args.east }) _ some c.requires.most none
+            one c.requires.corner
+            (south_east_at (h - 1) c.args.north c.args.east c.width.result c.step-2.result c.width.ensures.value
+            c.step-2.ensures.value),
       ),
     )
 
@@ -52,7 +58,8 @@ summary_of-north_west-requires t c =
       omega arith,
       (
         omega arith,
-        child_is_corner h (h - 1) 1 0 (record { north = c.args.north; east = c.args.east }) _ some c.requires.most one none c.requires.corner
+        child_is_corner h (h - 1) 1 0 (record { north = c.args.north; east = c.args.east }) _ some c.requires.most one
+            none c.requires.corner
             (north_west_at (h - 1) c.args.north c.args.east c.step.result c.step.ensures.value),
       ),
     )
@@ -65,8 +72,10 @@ summary_of-north_east-requires t c =
       omega arith,
       (
         omega arith,
-        child_is_corner h (h - 1) 1 1 (record { north = c.args.north; east = c.args.east }) _ some c.requires.most one one c.requires.corner
-            (north_east_at (h - 1) c.args.north c.args.east c.step.result c.width.result c.step-2.result c.step.ensures.value c.width.ensures.value c.step-2.ensures.value),
+        child_is_corner h (h - 1) 1 1 (record { north = c.args.north; east = c.args.east }) _ some c.requires.most one
+            one c.requires.corner
+            (north_east_at (h - 1) c.args.north c.args.east c.step.result c.width.result c.step-2.result
+            c.step.ensures.value c.width.ensures.value c.step-2.ensures.value),
       ),
     )
 
@@ -74,9 +83,13 @@ pub returns : goal.returns
 returns t c =
     let h : ℕ = c.args.height in
     let some : h ≡ suc (h - 1) = one_less h c.if-height-eq0.false in
-    assembled c.args.which (map sampled c.args.sources.now) h (h - 1) (record { north = c.args.north; east = c.args.east }) _ _ _ _ _ _ _ _ _ _ some
+    assembled c.args.which (map sampled c.args.sources.now) h (h - 1)
+    (record { north = c.args.north; east = c.args.east }) _ _ _ _ _ _ _ _ _ _ some
     (south_west_at (h - 1) c.args.north c.args.east)
-    (south_east_at (h - 1) c.args.north c.args.east c.width.result c.step-2.result c.width.ensures.value c.step-2.ensures.value)
+    (south_east_at (h - 1) c.args.north c.args.east c.width.result c.step-2.result c.width.ensures.value
+    c.step-2.ensures.value)
     (north_west_at (h - 1) c.args.north c.args.east c.step.result c.step.ensures.value)
-    (north_east_at (h - 1) c.args.north c.args.east c.step.result c.width.result c.step-2.result c.step.ensures.value c.width.ensures.value c.step-2.ensures.value)
-    c.summary_of-south_west.ensures c.summary_of-south_east.ensures c.summary_of-north_west.ensures c.summary_of-north_east.ensures c.own-own.ensures c.combine.ensures
+    (north_east_at (h - 1) c.args.north c.args.east c.step.result c.width.result c.step-2.result c.step.ensures.value
+    c.width.ensures.value c.step-2.ensures.value)
+    c.summary_of-south_west.ensures c.summary_of-south_east.ensures c.summary_of-north_west.ensures
+    c.summary_of-north_east.ensures c.own-own.ensures c.combine.ensures

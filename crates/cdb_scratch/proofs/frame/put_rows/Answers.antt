@@ -13,6 +13,8 @@ loop-row-preserved c =
     let lt : c.loop-row.row < side = let a = c.loop-row-test.true in omega arith in
     let size : length c.loop-row.frame ≡ side * side = omega arith in
     let len : length c.put_row.new.part ≡ side = omega arith in
-    row_more (λ r k. coded (kind_of c.args.tile.now.family) (tile_value c.args.sources.now c.args.tile.now r k)) c.loop-row.row side
+    row_more (λ r k. coded (kind_of c.args.tile.now.family) (tile_value c.args.sources.now c.args.tile.now r k))
+    c.loop-row.row side
     (c.loop-row.row * s) (c.loop-row.row * s + s - c.loop-row.row * s) c.loop-row.frame c.put_row.new.part
-    lt (ap (λ m. c.loop-row.row * m) e) (span_of c.loop-row.row s side e) size len c.loop-row.invariant c.put_row.ensures
+    lt (ap (λ m. c.loop-row.row * m) e) (span_of c.loop-row.row s side e)
+    size len c.loop-row.invariant c.put_row.ensures

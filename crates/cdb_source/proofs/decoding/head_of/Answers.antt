@@ -22,6 +22,7 @@ returns c =
     let z10 = c.if-bytes-ne0.false in
     let z11 = c.if-bytes-ne0-2.false in
     let fields = c.new-2.ensures in
-    head_answer bytes c.new-2.result c.in-Some.kind c.in-Some-new.level c.in-Some-arc_at.lat c.in-Some-arc_at-2.lon c.in-Some-arc_at-3.dlat c.in-Some-arc_at-4.dlon
+    head_answer bytes c.new-2.result c.in-Some.kind c.in-Some-new.level c.in-Some-arc_at.lat c.in-Some-arc_at-2.lon
+    c.in-Some-arc_at-3.dlat c.in-Some-arc_at-4.dlon
     c.count_at-rows.result c.count_at-cols.result first kind level z10 z11 rows c.count_at-cols.ensures
     c.in-Some-arc_at.ensures c.in-Some-arc_at-2.ensures c.in-Some-arc_at-3.ensures c.in-Some-arc_at-4.ensures fields

@@ -8,7 +8,8 @@ pub returns : goal.returns
 unfolding head_text
 returns c =
     let head = c.args.head.now in
-    let e1 : c.kind_number.result ∷ c.cast_unsigned.result ∷ 0 ∷ 0 ∷ [] ≡ kind_and_level head.kind head.level.number = search rules in
+    let e1 : c.kind_number.result ∷ c.cast_unsigned.result ∷ 0 ∷ 0 ∷ [] ≡ kind_and_level head.kind head.level.number =
+    search rules in
     let e2 : c.to_be_bytes.result ≡ count_bytes head.rows = search rules in
     let e3 : c.to_be_bytes-2.result ≡ count_bytes head.cols = search rules in
     let e4 : c.to_be_bytes-3.result ≡ arc_bytes head.lat.units = search rules in

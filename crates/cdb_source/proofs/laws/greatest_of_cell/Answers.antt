@@ -10,6 +10,7 @@ pub returns : goal.returns
 unfolding high
 returns c = record {
   is = λ ss h p. high_is (map sampled ss) h p;
-  only = λ ss h p r le corner k. greatest_only (ValueIn (map sampled ss) h p) r _ k (high_is (map sampled ss) h p le corner);
+  only = λ ss h p r le corner k. greatest_only (ValueIn (map sampled ss) h p) r _ k
+      (high_is (map sampled ss) h p le corner);
   next = λ ss h p. refl;
 }

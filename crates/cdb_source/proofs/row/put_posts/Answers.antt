@@ -12,6 +12,8 @@ loop-k-preserved c =
     let short : SFits w16 c.post.result = search rules in
     let within : c.loop-k.k < length c.loop-k.part = omega arith in
     rw (to_z-of_z w16 c.post.result short) (record {
-      posts = posts_more _ c.loop-k.part c.args.row.now c.loop-k.k c.post.result within c.loop-k-test.true c.loop-k.invariant.posts (rw same at c.post.ensures.value);
-      in_range = in_range_more c.args.kind c.loop-k.part c.loop-k.k c.post.result within c.loop-k.invariant.in_range c.post.ensures.in_range;
+      posts = posts_more _ c.loop-k.part c.args.row.now c.loop-k.k c.post.result within
+          c.loop-k-test.true c.loop-k.invariant.posts (rw same at c.post.ensures.value);
+      in_range = in_range_more c.args.kind c.loop-k.part c.loop-k.k c.post.result within
+          c.loop-k.invariant.in_range c.post.ensures.in_range;
     })

@@ -16,7 +16,8 @@ loop-k-preserved c =
     let f : SFits w16 c.number.result = search rules in
     let is = rw (to_z-of_z w16 c.number.result f) at c.read_as.ensures in
     rw (to_z-of_z w16 c.read_as.result fits)
-    (row-more (λ k old. read_as c.args.kind (number_from c.args.bytes.now (2 * k))) c.loop-k.k c.args.to.now c.loop-k.to c.read_as.result (omega arith) c.loop-k.invariant
+    (row-more (λ k old. read_as c.args.kind (number_from c.args.bytes.now (2 * k)))
+    c.loop-k.k c.args.to.now c.loop-k.to c.read_as.result (omega arith) c.loop-k.invariant
     (is ∙ ap (read_as c.args.kind) c.number.ensures))
 
 pub returns-clause-each : goal.returns-clause-each
@@ -25,4 +26,5 @@ returns-clause-each c k lt = let e = c.loop-k-test.false in c.loop-k.invariant.c
 pub returns-clause-spelled : goal.returns-clause-spelled
 returns-clause-spelled c posts all e =
     let t = c.loop-k-test.false in
-    all_spelled c.args.kind c.args.bytes.now c.loop-k.to posts (length c.args.to.now) c.loop-k.invariant.size c.requires (λ k lt. c.loop-k.invariant.changed k (omega arith) lt) all e
+    all_spelled c.args.kind c.args.bytes.now c.loop-k.to posts (length c.args.to.now)
+    c.loop-k.invariant.size c.requires (λ k lt. c.loop-k.invariant.changed k (omega arith) lt) all e

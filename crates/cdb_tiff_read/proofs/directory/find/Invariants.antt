@@ -6,4 +6,5 @@ use Rattle.cdb_tiff_read.proofs.directory.find.Given as goal
 
 -- no entry before k has the tag
 abbrev pub invariant-loop-k : goal.invariant-loop-k
-invariant-loop-k l = find_from (λ (e : Entry). e.tag == l.tag) l.bytes l.k ≡ find (λ (e : Entry). e.tag == l.tag) (entries l.bytes)
+invariant-loop-k l = find_from (λ (e : Entry). e.tag == l.tag) l.bytes l.k ≡ find (λ (e : Entry). e.tag == l.tag)
+    (entries l.bytes)

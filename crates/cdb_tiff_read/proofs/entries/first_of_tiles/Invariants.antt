@@ -7,4 +7,5 @@ use Rattle.cdb_tiff_read.proofs.entries.first_of_tiles.Given as goal
 
 -- the entries before k have no tag of a tile
 abbrev pub invariant-loop-k : goal.invariant-loop-k
-invariant-loop-k l = find_from (λ (e : Entry). is_tile_tag e.tag) l.bytes l.k ≡ find (λ (e : Entry). is_tile_tag e.tag) (entries l.bytes)
+invariant-loop-k l = find_from (λ (e : Entry). is_tile_tag e.tag) l.bytes l.k ≡ find (λ (e : Entry). is_tile_tag e.tag)
+    (entries l.bytes)

@@ -11,4 +11,5 @@ nonzero_rem-rows_before c = opened_rows c.args.bytes.now c.args.image.now c.requ
 -- the row ends where its strip ends, at the latest
 pub returns-clause-whole : goal.returns-clause-whole
 returns-clause-whole c =
-    rw (c.from.ensures, c.offset_of-offset.ensures) (opened_whole c.args.bytes.now c.args.image.now c.args.r c.requires.opened c.requires.within)
+    rw (c.from.ensures, c.offset_of-offset.ensures)
+    (opened_whole c.args.bytes.now c.args.image.now c.args.r c.requires.opened c.requires.within)

@@ -5,4 +5,5 @@ use Rattle.cdb_tiff_read.proofs.samples.put_signed_8.Given as goal
 
 -- the samples before column c are written
 abbrev pub invariant-loop-c : goal.invariant-loop-c
-invariant-loop-c l = (order : Order) (k : ℕ) → k < l.c → slice_get l.to k ≡ Some (sample order 8 true (drop (l.place + k) l.bytes))
+invariant-loop-c l = (order : Order) (k : ℕ) → k < l.c → slice_get l.to k
+    ≡ Some (sample order 8 true (drop (l.place + k) l.bytes))

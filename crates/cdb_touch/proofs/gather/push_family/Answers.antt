@@ -12,8 +12,10 @@ loop-height-init c =
     let e : c.height-height.result ≡ source_height c.args.head.now = c.height-height.ensures.value in
     record {
       finer = omega arith;
-      adds = subst (λ k. AddsTiles (IsBelowHeight c.args.head.now c.args.family k) c.args.tiles.now.items c.args.tiles.now.items) (sym e)
-          (Adds-none (IsBelowHeight c.args.head.now c.args.family (source_height c.args.head.now)) c.args.tiles.now.items (height_none c.args.head.now c.args.family));
+      adds = subst (λ k. AddsTiles (IsBelowHeight c.args.head.now c.args.family k)
+          c.args.tiles.now.items c.args.tiles.now.items) (sym e)
+          (Adds-none (IsBelowHeight c.args.head.now c.args.family (source_height c.args.head.now))
+          c.args.tiles.now.items (height_none c.args.head.now c.args.family));
     }
 
 pub loop-height-preserved : goal.loop-height-preserved
@@ -23,8 +25,10 @@ loop-height-preserved c =
     let g = c.loop-height.invariant.finer in
     record {
       finer = omega arith;
-      adds = Adds-then (IsBelowHeight c.args.head.now f h) (IsOfHeight c.args.head.now f h) (IsBelowHeight c.args.head.now f (h + 1))
-          c.args.tiles.now.items c.loop-height.tiles.items c.push_height.new.tiles.items c.loop-height.invariant.adds c.in_ok-push_height.ensures
+      adds = Adds-then (IsBelowHeight c.args.head.now f h) (IsOfHeight c.args.head.now f h)
+          (IsBelowHeight c.args.head.now f (h + 1))
+          c.args.tiles.now.items c.loop-height.tiles.items c.push_height.new.tiles.items c.loop-height.invariant.adds
+          c.in_ok-push_height.ensures
           (one_height_split c.args.head.now f h);
     }
 
@@ -33,4 +37,5 @@ returns c =
     let h : ℕ = c.loop-height.height in
     let past : 35 ≤ h = c.loop-height-test.false in
     Adds-iff (IsBelowHeight c.args.head.now c.args.family h) (IsOfFamily c.args.head.now c.args.family)
-    c.args.tiles.now.items c.loop-height.tiles.items (all_heights_same c.args.head.now c.args.family h past) c.loop-height.invariant.adds
+    c.args.tiles.now.items c.loop-height.tiles.items (all_heights_same c.args.head.now c.args.family h past)
+    c.loop-height.invariant.adds

@@ -14,9 +14,12 @@ returns-in_ok-push_family-in-Elevation-2 c =
     let two : Tile → Type 0 = λ t. IsOfFamily head Elev t ⊎ IsOfFamily head Low t in
     let first : List Tile = c.args.tiles.now.items in
     let last : List Tile = c.push_family-in-Elevation-2.new.tiles.items in
-    on_ok c.push_family-in-Elevation-2.result (AddsTiles (IsOfFamily head High) c.push_family-in-Elevation.new.tiles.items last) (AddsTiles (Reaches head) first last)
+    on_ok c.push_family-in-Elevation-2.result
+    (AddsTiles (IsOfFamily head High) c.push_family-in-Elevation.new.tiles.items last)
+    (AddsTiles (Reaches head) first last)
     (λ a. Adds-then two (IsOfFamily head High) (Reaches head) first c.push_family-in-Elevation.new.tiles.items last
-    (Adds-then (IsOfFamily head Elev) (IsOfFamily head Low) two first c.push_family.new.tiles.items c.push_family-in-Elevation.new.tiles.items
+    (Adds-then (IsOfFamily head Elev) (IsOfFamily head Low)
+    two first c.push_family.new.tiles.items c.push_family-in-Elevation.new.tiles.items
     c.in_ok-push_family-in-Elevation.ensures c.in_ok-push_family-in-Elevation-2.ensures (λ t. (λ i. i, λ i. i)))
     a (λ t. three_families_split head t c.in-Elevation.is))
     c.push_family-in-Elevation-2.ensures
@@ -26,6 +29,7 @@ returns-in-Material c =
     let head = c.args.head.now in
     let first : List Tile = c.args.tiles.now.items in
     let last : List Tile = c.push_family-in-Material.new.tiles.items in
-    on_ok c.push_family-in-Material.result (AddsTiles (IsOfFamily head Mat) first last) (AddsTiles (Reaches head) first last)
+    on_ok c.push_family-in-Material.result (AddsTiles (IsOfFamily head Mat) first last)
+    (AddsTiles (Reaches head) first last)
     (Adds-iff (IsOfFamily head Mat) (Reaches head) first last (λ t. one_family_split head t c.in-Material.is))
     c.push_family-in-Material.ensures

@@ -9,12 +9,15 @@ use Rattle.cdb_touch.proofs.gather.push_rectangle.Goals as goal
 pub returns-then-len-eq0 : goal.returns-then-len-eq0
 returns-then-len-eq0 c =
     let e : c.len.result ≡ 0 = c.if-len-eq0.true in let l = c.len.ensures in
-    Adds-none (IsInRectangle c.args.family c.args.height c.args.rectangle.rows c.args.rectangle.columns) c.args.tiles.now.items
+    Adds-none (IsInRectangle c.args.family c.args.height c.args.rectangle.rows c.args.rectangle.columns)
+    c.args.tiles.now.items
     (λ t. empty_rectangle c.args.family c.args.height c.args.rectangle.rows c.args.rectangle.columns t (omega arith))
 
 pub loop-row-init : goal.loop-row-init
 loop-row-init c = record {
-  adds = Adds-none (IsInRectangle c.args.family c.args.height (record c.args.rectangle.rows { end = c.args.rectangle.rows.first }) c.args.rectangle.columns) c.args.tiles.now.items
+  adds = Adds-none
+      (IsInRectangle c.args.family c.args.height (record c.args.rectangle.rows { end = c.args.rectangle.rows.first })
+      c.args.rectangle.columns) c.args.tiles.now.items
       (no_row_added c.args.family c.args.height c.args.rectangle.rows c.args.rectangle.columns);
   most = omega arith;
 }
@@ -25,7 +28,8 @@ push_row-requires-clause-columns c =
     let from : c.args.rectangle.rows.first ≤ c.loop-row.row = c.loop-row.auto.row in
     let to : c.loop-row.row < c.args.rectangle.rows.end = c.loop-row-test.true in
     let low = c.requires.south in let high = c.requires.north in
-    let e : c.loop-row.row / n ≡ c.args.geocells = quotient_of c.args.geocells n c.loop-row.row (omega arith) (omega arith) in
+    let e : c.loop-row.row / n ≡ c.args.geocells = quotient_of c.args.geocells n c.loop-row.row (omega arith)
+    (omega arith) in
     subst (λ m. c.args.rectangle.columns.end ≤ 360 / width_at m * n) (sym e) c.requires.east
 
 pub loop-row-preserved : goal.loop-row-preserved
@@ -34,9 +38,11 @@ loop-row-preserved c =
     let rows : Run = c.args.rectangle.rows in
     let columns : Run = c.args.rectangle.columns in
     record {
-      adds = Adds-then (IsInRectangle c.args.family c.args.height (record rows { end = y }) columns) (IsInRow c.args.family c.args.height y columns)
+      adds = Adds-then (IsInRectangle c.args.family c.args.height (record rows { end = y }) columns)
+          (IsInRow c.args.family c.args.height y columns)
           (IsInRectangle c.args.family c.args.height (record rows { end = y + 1 }) columns)
-          c.args.tiles.now.items c.loop-row.tiles.items c.push_row.new.tiles.items c.loop-row.invariant.adds c.in_ok-push_row.ensures
+          c.args.tiles.now.items c.loop-row.tiles.items c.push_row.new.tiles.items c.loop-row.invariant.adds
+          c.in_ok-push_row.ensures
           (λ t. one_row_added c.args.family c.args.height y rows columns t c.loop-row.auto.row);
       most = let a = c.loop-row-test.true in omega arith;
     }
@@ -46,7 +52,8 @@ returns c =
     let y : ℕ = c.loop-row.row in
     let rows : Run = c.args.rectangle.rows in
     let columns : Run = c.args.rectangle.columns in
-    Adds-iff (IsInRectangle c.args.family c.args.height (record rows { end = y }) columns) (IsInRectangle c.args.family c.args.height rows columns)
+    Adds-iff (IsInRectangle c.args.family c.args.height (record rows { end = y }) columns)
+    (IsInRectangle c.args.family c.args.height rows columns)
     c.args.tiles.now.items c.loop-row.tiles.items
     (λ t. all_rows_added c.args.family c.args.height y rows columns t c.loop-row.invariant.most c.loop-row-test.false)
     c.loop-row.invariant.adds

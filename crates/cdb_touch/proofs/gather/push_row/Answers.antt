@@ -8,7 +8,9 @@ use Rattle.cdb_touch.proofs.gather.push_row.Goals as goal
 
 pub loop-column-init : goal.loop-column-init
 loop-column-init c = record {
-  adds = Adds-none (IsInRow c.args.family c.args.height c.args.row (record c.args.columns { end = c.args.columns.first })) c.args.tiles.now.items
+  adds = Adds-none
+      (IsInRow c.args.family c.args.height c.args.row (record c.args.columns { end = c.args.columns.first }))
+      c.args.tiles.now.items
       (no_column c.args.family c.args.height c.args.row c.args.columns);
   most = omega arith;
 }
@@ -24,7 +26,8 @@ loop-column-preserved c =
       adds = Adds-then (IsInRow c.args.family c.args.height c.args.row (record run { end = x })) (λ u. t ≡ u)
           (IsInRow c.args.family c.args.height c.args.row (record run { end = x + 1 }))
           c.args.tiles.now.items c.loop-column.tiles.items c.push.new.self.items c.loop-column.invariant.adds
-          (subst (λ ys. AddsTiles (λ u. t ≡ u) c.loop-column.tiles.items ys) (sym pushed) (Adds-one c.loop-column.tiles.items t))
+          (subst (λ ys. AddsTiles (λ u. t ≡ u) c.loop-column.tiles.items ys) (sym pushed)
+          (Adds-one c.loop-column.tiles.items t))
           (λ u. one_column_more c.args.family c.args.height c.args.row x run t u c.tile_at.ensures from);
       most = let a = c.loop-column-test.true in omega arith;
     }
@@ -33,7 +36,9 @@ pub returns : goal.returns
 returns c =
     let x : ℕ = c.loop-column.column in
     let run : Run = c.args.columns in
-    Adds-iff (IsInRow c.args.family c.args.height c.args.row (record run { end = x })) (IsInRow c.args.family c.args.height c.args.row run)
+    Adds-iff (IsInRow c.args.family c.args.height c.args.row (record run { end = x }))
+    (IsInRow c.args.family c.args.height c.args.row run)
     c.args.tiles.now.items c.loop-column.tiles.items
-    (λ u. all_columns c.args.family c.args.height c.args.row x run u c.loop-column.invariant.most c.loop-column-test.false)
+    (λ u. all_columns c.args.family c.args.height c.args.row x run u
+    c.loop-column.invariant.most c.loop-column-test.false)
     c.loop-column.invariant.adds

@@ -18,12 +18,14 @@ loop-head-preserved c =
     take_more xs i c.head-item.result c.loop-head-test.true ∙ ap (λ h. take i xs ++ h ∷ []) (sym c.head-item.is) in
     subst (λ ys. AddsTiles (Reached ys) c.args.tiles.now.items c.push_reached.new.tiles.items) (sym e)
     (Adds-then (Reached (take i xs)) (Reaches c.head-item.result) (Reached (take i xs ++ c.head-item.result ∷ []))
-    c.args.tiles.now.items c.loop-head.tiles.items c.push_reached.new.tiles.items c.loop-head.invariant c.in_ok-push_reached.ensures
+    c.args.tiles.now.items c.loop-head.tiles.items c.push_reached.new.tiles.items c.loop-head.invariant
+    c.in_ok-push_reached.ensures
     (one_source_more (take i xs) c.head-item.result))
 
 pub returns : goal.returns
 returns c =
     let xs : List SourceHead = c.args.heads.now in
-    let all : c.loop-head.head-index ≡ length xs = let a = c.loop-head-test.false in let b = c.loop-head.auto.head-index-end in omega arith in
+    let all : c.loop-head.head-index ≡ length xs = let a = c.loop-head-test.false in
+    let b = c.loop-head.auto.head-index-end in omega arith in
     let e : take c.loop-head.head-index xs ≡ xs = ap (λ k. take k xs) all ∙ take-length xs in
     subst (λ ys. AddsTiles (Reached ys) c.args.tiles.now.items c.loop-head.tiles.items) e c.loop-head.invariant

@@ -9,7 +9,8 @@ use Rattle.cdb_touch.proofs.head.rows.Goals as goal
 
 pub with_places-requires-clause-whole : goal.with_places-requires-clause-whole
 with_places-requires-clause-whole c =
-    dvd_same c.step-step.result (step (source_height c.args.head.now)) c.extent.result (side_of c.args.height * step c.args.height)
+    dvd_same c.step-step.result (step (source_height c.args.head.now))
+    c.extent.result (side_of c.args.height * step c.args.height)
     (c.step-step.ensures.value ∙ ap step c.height.ensures.value) c.extent.ensures.value
     (rows-dvd (side_of c.args.height) (source_height c.args.head.now) c.args.height c.requires.finer)
 

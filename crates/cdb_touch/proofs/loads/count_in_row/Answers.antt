@@ -28,8 +28,10 @@ overflow_mul-result c =
     c.reached_in_row-rectangle.ensures.south c.reached_in_row-rectangle.ensures.north in
     let e : c.len-2.result ≡ r.columns.end - r.columns.first = c.len-2.ensures in
     let q : r.columns.end ≤ 360 / width_at c.args.row * n = c.reached_in_row-rectangle.ensures.east in
-    let m : c.len.result * c.len-2.result ≤ 360 * (n * n) = rectangle_most n (width_at c.args.row) c.len.result c.len-2.result x (omega arith) in
-    let k : 1 ≤ source_height c.args.head.now = height-least c.args.head.now.level.number c.args.head.now.level.finest in
+    let m : c.len.result * c.len-2.result ≤ 360 * (n * n) =
+    rectangle_most n (width_at c.args.row) c.len.result c.len-2.result x (omega arith) in
+    let k : 1 ≤ source_height c.args.head.now =
+    height-least c.args.head.now.level.number c.args.head.now.level.finest in
     let f = c.requires.finer in
     let s : n * n ≤ 70368744177664 = square_most c.args.height (omega arith) in
     let below : c.len.result * c.len-2.result < 18446744073709551616 = omega arith in search (rules, below)
@@ -37,10 +39,14 @@ overflow_mul-result c =
 pub returns-clause-each : goal.returns-clause-each
 returns-clause-each c f ek =
     let r = c.reached_in_row-rectangle.result in
-    let k : 1 ≤ source_height c.args.head.now = height-least c.args.head.now.level.number c.args.head.now.level.finest in
+    let k : 1 ≤ source_height c.args.head.now =
+    height-least c.args.head.now.level.number c.args.head.now.level.finest in
     let g = c.requires.finer in
     HasCount-same ((r.rows.end - r.rows.first) * (r.columns.end - r.columns.first)) (c.len.result * c.len-2.result)
-    (ap (λ m. m * (r.columns.end - r.columns.first)) (sym c.len.ensures) ∙ ap (λ m. c.len.result * m) (sym c.len-2.ensures))
-    (HasCount-iff ((r.rows.end - r.rows.first) * (r.columns.end - r.columns.first)) (λ t. c.reached_in_row-rectangle.ensures.each f t ek)
+    (ap (λ m. m * (r.columns.end - r.columns.first)) (sym c.len.ensures)
+    ∙ ap (λ m. c.len.result * m) (sym c.len-2.ensures))
+    (HasCount-iff ((r.rows.end - r.rows.first) * (r.columns.end - r.columns.first))
+    (λ t. c.reached_in_row-rectangle.ensures.each f t ek)
     (count_rectangle f c.args.height c.args.row r.rows r.columns (omega arith) c.requires.most c.requires.row
-    c.reached_in_row-rectangle.ensures.south c.reached_in_row-rectangle.ensures.north c.reached_in_row-rectangle.ensures.east))
+    c.reached_in_row-rectangle.ensures.south c.reached_in_row-rectangle.ensures.north
+    c.reached_in_row-rectangle.ensures.east))

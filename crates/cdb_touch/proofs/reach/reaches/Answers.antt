@@ -10,7 +10,8 @@ returns-then-has_row c =
     let head = c.args.head.now in let t = c.args.tile.now in
     let e : head.kind ≡ kind_of t.family = search rules in
     let order : t.level.number ≤ℤ head.level.number = omega (arith, ints, c.if-head-tile.false) in
-    let le : source_height head ≤ tile_height t = height-order head.level.number t.level.number head.level.finest t.level.finest order in (
+    let le : source_height head ≤ tile_height t =
+    height-order head.level.number t.level.number head.level.finest t.level.finest order in (
       (λ x. reaches_from head t e le (c.has_row.ensures.0 c.if-has_row.true) (c.has_column.ensures.0 x)),
       (λ r. c.has_column.ensures.1 (reaches_to head t r).1),
     )

@@ -50,9 +50,12 @@ returns c =
     let u = c.cmp-4.ensures in
     let r = c.cmp-5.ensures in
     c.then-4.ensures
-    ∙ ap (λ x. ordering_then x c.cmp-5.result) (c.then-3.ensures ∙ ap (λ x. ordering_then x c.cmp-4.result) (c.then-2.ensures
-    ∙ ap (λ x. ordering_then x c.cmp-3.result) (c.then.ensures ∙ ap (λ x. ordering_then x c.cmp-2.result) f ∙ ap (ordering_then _) l)
+    ∙ ap (λ x. ordering_then x c.cmp-5.result)
+    (c.then-3.ensures ∙ ap (λ x. ordering_then x c.cmp-4.result) (c.then-2.ensures
+    ∙ ap (λ x. ordering_then x c.cmp-3.result) (c.then.ensures ∙ ap (λ x. ordering_then x c.cmp-2.result) f
+    ∙ ap (ordering_then _) l)
     ∙ ap (ordering_then _) k) ∙ ap (ordering_then _) u)
     ∙ ap (ordering_then _) r
-    ∙ regrouped (nat_cmp (family_rank s.family) (family_rank t.family)) (int_cmp t.level.number s.level.number) (int_cmp s.cell.lat t.cell.lat)
+    ∙ regrouped (nat_cmp (family_rank s.family) (family_rank t.family)) (int_cmp t.level.number s.level.number)
+    (int_cmp s.cell.lat t.cell.lat)
     (int_cmp s.cell.lon t.cell.lon) (nat_cmp s.up t.up) (nat_cmp s.right t.right)

@@ -12,9 +12,11 @@ pub returns-clause-crashed : goal.returns-clause-crashed
 returns-clause-crashed c =
     let s = replay c.args.self.record.calls.items in
     record {
-      map = fun_ext (λ q. c.in_ok-restore_paths.ensures.present q ∙ picked-shown c.args.pick (shown c.in_ok-table.table) s c.in_ok-table.ensures q);
+      map = fun_ext (λ q. c.in_ok-restore_paths.ensures.present q
+          ∙ picked-shown c.args.pick (shown c.in_ok-table.table) s c.in_ok-table.ensures q);
       only = c.in_ok-restore_paths.ensures.only;
-      made = c.in_ok-restore_paths.ensures.made ∙ ap (λ (t : State). t.made) c.in_ok-folders.ensures ∙ ap (λ cs. (replay cs).made) c.as_slice.ensures.value;
+      made = c.in_ok-restore_paths.ensures.made ∙ ap (λ (t : State). t.made) c.in_ok-folders.ensures
+          ∙ ap (λ cs. (replay cs).made) c.as_slice.ensures.value;
     }
 
 pub returns-clause-image : goal.returns-clause-image
@@ -22,5 +24,7 @@ returns-clause-image c =
     let calls = c.args.self.record.calls.items in
     let s = replay calls in
     let P : FileMap → Type 0 = IsImage s in
-    subst P (sym (fun_ext (λ q. c.in_ok-restore_paths.ensures.present q ∙ picked-shown c.args.pick (shown c.in_ok-table.table) s c.in_ok-table.ensures q)))
+    subst P (sym
+    (fun_ext (λ q. c.in_ok-restore_paths.ensures.present q
+    ∙ picked-shown c.args.pick (shown c.in_ok-table.table) s c.in_ok-table.ensures q)))
     (picked-image c.args.pick s (present_is_possible calls))

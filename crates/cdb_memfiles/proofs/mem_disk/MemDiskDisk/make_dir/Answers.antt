@@ -14,10 +14,13 @@ returns-in-Ok-clause-changes c = changes_push (MakeDir c.args.folder.now) c.in-O
 pub returns-in_err-begin-clause-changes : goal.returns-in_err-begin-clause-changes
 returns-in_err-begin-clause-changes c =
     let s = replay c.args.self.now.record.calls.items in
-    let fails : FailsMakeDir s (after_make_dir c.args.folder.now.bytes s) s = fails_make_dir-same c.args.folder.now.bytes s s refl in
+    let fails : FailsMakeDir s (after_make_dir c.args.folder.now.bytes s) s =
+    fails_make_dir-same c.args.folder.now.bytes s s refl in
     search rules
 
 pub returns-in-Err-clause-changes : goal.returns-in-Err-clause-changes
 returns-in-Err-clause-changes c =
     let e = c.in-Err.ensures.err in
-    changes_none e (fails_make_dir-same c.args.folder.now.bytes (replay c.args.self.now.record.calls.items) (replay c.note.new.self.calls.items) (ap replay e))
+    changes_none e
+    (fails_make_dir-same c.args.folder.now.bytes (replay c.args.self.now.record.calls.items)
+    (replay c.note.new.self.calls.items) (ap replay e))

@@ -11,5 +11,6 @@ invariant_of-result c =
     record {
       due = omega arith;
       count = search rules;
-      in_range = all_none c.args.head.kind _ _ _ (to_z-of_z w16 c.no_value.result short ∙ c.no_value.ensures) (c.in_ok-posts.ensures.items_if_clones_equal (λ y e. e));
+      in_range = all_none c.args.head.kind _ _ _ (to_z-of_z w16 c.no_value.result short ∙ c.no_value.ensures)
+          (c.in_ok-posts.ensures.items_if_clones_equal (λ y e. e));
     }
