@@ -11,6 +11,8 @@ ghost use Rattle.cdb_engine.specs.Populating.{IsAtRest, PublishesIn};
 ghost use Rattle.cdb_engine.specs.inside.Populating.{begun_of, BeginsDrawn, ended_by, FinishesSteps};
 ghost use Rattle.cdb_model.specs.Causes.{Rose};
 ghost use Rattle.cdb_engine.specs.StoreAnswers.{AdvanceCause};
+ghost use Rattle.cdb_model.specs.declared.limits.TheConstants.{MOST_TILE_VALUES};
+ghost use Rattle.cdb_source.specs.declared.limits.TheConstants.{MOST_LOAD};
 
 use crate::drawn_sources::{submit_all, touched_tiles};
 use crate::engine::Engine;
@@ -112,7 +114,7 @@ pub fn publish_one<D: Disk>(
     state: &mut u64,
     frame: &mut [i16],
 ) -> Result<Published, PopulateError>
-    requires frame { length frame.old ≡ 1048576 }
+    requires frame { length frame.old ≡ MOST_TILE_VALUES }
     requires rest { IsAtRest any_store (bare_of engine.old) }
     ensures publishes { (w : Which) (origin : Origin) (s : StateIn (store_kind w))
         → Stays D.tells D.clock D.fault_count D.since D.state origin disk.old engine.old w s → IsAtRest (store_kind w) s
@@ -120,7 +122,7 @@ pub fn publish_one<D: Disk>(
         (Stays D.tells D.clock D.fault_count D.since D.state origin disk.new engine.new w) }
     ensures other { IfErr result FillFindsOther }
     ensures state { OnOk result (state.new ≡ state_next state.old) }
-    ensures few { IfOk result (λ published. published.files ≤ 16384) }
+    ensures few { IfOk result (λ published. published.files ≤ MOST_LOAD) }
     ensures least { IfOk result (λ published. negsuc 562949953421311 ≤ℤ published.sum) }
     ensures most { IfOk result (λ published. published.sum ≤ℤ pos 562949953421312) }
     ensures frame { length frame.new ≡ length frame.old }

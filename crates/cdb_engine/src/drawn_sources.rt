@@ -6,9 +6,9 @@ ghost use Rattle.cdb_generate.specs.Generator.{PublicationDrawn};
 
 use crate::engine::Engine;
 use crate::errors::PopulateError;
-use crate::room::{MOST_LOAD, heads};
+use crate::room::heads;
 use cdb_grid::Tile;
-use cdb_source::Source;
+use cdb_source::{MOST_LOAD, Source};
 use cdb_touch::{load, touched};
 use std::alloc::{AllocError, Global};
 
@@ -16,7 +16,7 @@ use std::alloc::{AllocError, Global};
 pub(crate) fn touched_tiles(alloc: Global, sources: &[Source]) -> Result<Vec<Tile>, AllocError>
     requires drawn { (x : ℕ) × PublicationDrawn x sources.now }
     ensures touched { IfOk result (λ tiles. IsTouched (heads_of sources.now) tiles.items) }
-    ensures few { IfOk result (λ tiles. length tiles.items ≤ 16384) }
+    ensures few { IfOk result (λ tiles. length tiles.items ≤ MOST_LOAD) }
 {
     let heads = heads(alloc, sources)?;
     let load = load(heads.as_slice());

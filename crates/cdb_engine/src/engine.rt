@@ -18,6 +18,7 @@ ghost use Rattle.cdb_engine.specs.StoreAnswers.{ready_answer, session_answer, cl
 ghost use Rattle.cdb_engine.specs.StoreAnswers.{tile_answer, HasBytes, TriesIn, HaltsBy, AdvanceCause, steps_left};
 ghost use Rattle.cdb_engine.specs.Stays.{Stays, Shows, ChangesAlike};
 ghost use Rattle.cdb_engine.specs.Tracks.{Origin, Tracks, Leads, DuringNow};
+ghost use Rattle.cdb_model.specs.declared.limits.TheConstants.{MOST_VERSIONS};
 
 use crate::errors::{AdvanceError, ReadyError, SubmitRefused};
 use crate::reply::Opened;
@@ -114,7 +115,7 @@ impl Engine {
         ensures tells { (w : Which) (s : StateIn (store_kind w)) → Shows self.now w s
             → VersionsLineIn (store_kind w) s (machine.versions result) s }
         ensures value { result ≡ length self.now.chain.records }
-        ensures most { result ≤ 4096 }
+        ensures most { result ≤ MOST_VERSIONS }
     {
         self.chain.newest()
     }

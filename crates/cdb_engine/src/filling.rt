@@ -11,11 +11,13 @@ ghost use Rattle.cdb_engine.specs.Filling.{PopulatesIn, Populates};
 ghost use Rattle.cdb_engine.specs.inside.Filling.{FillsIn};
 ghost use Rattle.cdb_engine.specs.OtherSizes.{FillFindsOther};
 ghost use Rattle.cdb_engine.specs.Populating.{IsAtRest};
+ghost use Rattle.cdb_model.specs.declared.limits.TheConstants.{MOST_TILE_VALUES};
 
 use crate::drawn_publication::{Published, publish_one};
 use crate::engine::Engine;
 use crate::errors::PopulateError;
 use cdb_files::Disk;
+use cdb_model::MOST_TILE_VALUES;
 use std::alloc::{AllocError, Global};
 
 /// What the publications brought: the newest version, how many files of tiles were made, and the sum of
@@ -27,14 +29,11 @@ pub struct Made {
     pub sum: i64,
 }
 
-/// How many values the largest tile has.
-const MOST_VALUES: usize = 1_048_576;
-
 /// Room for the values of the largest tile.
 fn new_frame(alloc: Global) -> Result<Vec<i16>, AllocError>
-    ensures { IfOk result (λ frame. length frame.items ≡ 1048576) }
+    ensures { IfOk result (λ frame. length frame.items ≡ MOST_TILE_VALUES) }
 {
-    vec![in alloc; 0; MOST_VALUES]
+    vec![in alloc; 0; MOST_TILE_VALUES]
 }
 
 /// Makes so many publications: how many files of tiles were made, and the sum of the values in them.
@@ -46,7 +45,7 @@ fn fill<D: Disk>(
     count: u8,
     frame: &mut [i16],
 ) -> Result<Published, PopulateError>
-    requires frame { length frame.old ≡ 1048576 }
+    requires frame { length frame.old ≡ MOST_TILE_VALUES }
     requires rest { IsAtRest any_store (bare_of engine.old) }
     ensures fills { (w : Which) (origin : Origin) (s : StateIn (store_kind w))
         → Stays D.tells D.clock D.fault_count D.since D.state origin disk.old engine.old w s → IsAtRest (store_kind w) s

@@ -2,14 +2,12 @@
 ghost use Rattle.std.specs.Prelude.{◌≡◌, ◌≤◌, ◌<◌, ℕ, IfOk, OnOk};
 ghost use Rattle.cdb_source.specs.Reached.{IsLoad};
 ghost use Rattle.cdb_model.specs.Publications.{heads_of};
+ghost use Rattle.cdb_source.specs.declared.limits.TheConstants.{MOST_LOAD};
 
 use cdb_chain::Chain;
-use cdb_source::{Source, SourceHead};
+use cdb_source::{MOST_LOAD, Source, SourceHead};
 use cdb_touch::load;
 use std::alloc::{AllocError, Global};
-
-/// The greatest load of a publication.
-pub(crate) const MOST_LOAD: u128 = 16_384;
 
 /// The heads of sources, in their order.
 pub(crate) fn heads(alloc: Global, sources: &[Source]) -> Result<Vec<SourceHead>, AllocError>
@@ -26,7 +24,7 @@ pub(crate) fn make_room(
     sources: &[Source],
 ) -> Result<(), AllocError>
     ensures records { chain.new.records ≡ chain.old.records }
-    ensures room { (load : ℕ) → IsLoad (heads_of sources.now) load → load ≤ 16384
+    ensures room { (load : ℕ) → IsLoad (heads_of sources.now) load → load ≤ MOST_LOAD
         → OnOk result (load < chain.new.spare) }
 {
     let heads = heads(alloc, sources)?;

@@ -2,6 +2,7 @@
 ghost use Rattle.std.specs.Prelude.{◌≡◌, ◌≤◌, pos, negsuc, ◌≤ℤ◌, List, length, ℕ, [], ◌∷◌, ◌*◌, All, IfOk, IfErr};
 ghost use Rattle.std.specs.Prelude.{Err};
 ghost use Rattle.cdb_source.specs.declared.source.Source as sources;
+ghost use Rattle.cdb_source.specs.declared.limits.TheConstants.{MOST_LOAD};
 ghost use Rattle.cdb_model.specs.TileFile.{tile_bytes};
 ghost use Rattle.cdb_generate.specs.Sums.{tile_sum, tiles_sum};
 ghost use Rattle.cdb_model.specs.Causes.{Rose};
@@ -15,6 +16,7 @@ ghost use Rattle.cdb_engine.specs.Tracks.{Origin};
 ghost use Rattle.cdb_engine.specs.OtherSizes.{TileFindsOther, FillFindsOther};
 ghost use Rattle.cdb_engine.specs.Populating.{IsAtRest};
 ghost use Rattle.cdb_engine.specs.inside.Populating.{asked_by, LeavesState, IsOpenAt, Sums};
+ghost use Rattle.cdb_model.specs.declared.limits.TheConstants.{MOST_TILE_VALUES};
 
 use crate::engine::Engine;
 use crate::errors::PopulateError;
@@ -28,7 +30,7 @@ use cdb_tiff_write::{bits, posts_of, tile_size};
 /// The sum of the values in the file of a tile, and 0 for bytes of another length. The values are read
 /// into `frame`.
 fn sum_of_file(bytes: &[u8], tile: &Tile, frame: &mut [i16]) -> i64
-    requires frame { length frame.old ≡ 1048576 }
+    requires frame { length frame.old ≡ MOST_TILE_VALUES }
     ensures sum { (ss : List sources.Source) → bytes.now ≡ tile_bytes ss tile.now → result ≡ tile_sum ss tile.now }
     ensures least { negsuc 34359738367 ≤ℤ result }
     ensures most { result ≤ℤ pos 34359738368 }
@@ -67,7 +69,7 @@ fn sum_tile<D: Disk>(
     disk: &mut D,
     frame: &mut [i16],
 ) -> Result<i64, PopulateError>
-    requires frame { length frame.old ≡ 1048576 }
+    requires frame { length frame.old ≡ MOST_TILE_VALUES }
     ensures asks { (w : Which) (origin : Origin) (s : StateIn (store_kind w))
         → Stays D.tells D.clock D.fault_count D.since D.state origin disk.old engine.old w s
         → LeavesState w result (Stays D.tells D.clock D.fault_count D.since D.state origin disk.new engine.new w s) }
@@ -96,8 +98,8 @@ fn sum_tiles<D: Disk>(
     disk: &mut D,
     frame: &mut [i16],
 ) -> Result<i64, PopulateError>
-    requires frame { length frame.old ≡ 1048576 }
-    requires few { length tiles.now ≤ 16384 }
+    requires frame { length frame.old ≡ MOST_TILE_VALUES }
+    requires few { length tiles.now ≤ MOST_LOAD }
     ensures asks { (w : Which) (origin : Origin) (s : StateIn (store_kind w))
         → Stays D.tells D.clock D.fault_count D.since D.state origin disk.old engine.old w s
         → LeavesState w result (Stays D.tells D.clock D.fault_count D.since D.state origin disk.new engine.new w s) }
@@ -130,8 +132,8 @@ pub(crate) fn sum_newest<D: Disk>(
     disk: &mut D,
     frame: &mut [i16],
 ) -> Result<i64, PopulateError>
-    requires frame { length frame.old ≡ 1048576 }
-    requires few { length tiles.now ≤ 16384 }
+    requires frame { length frame.old ≡ MOST_TILE_VALUES }
+    requires few { length tiles.now ≤ MOST_LOAD }
     ensures sums { (w : Which) (origin : Origin) (s : StateIn (store_kind w))
         → Stays D.tells D.clock D.fault_count D.since D.state origin disk.old engine.old w s → IsAtRest (store_kind w) s
         → Sums w s.list result (Stays D.tells D.clock D.fault_count D.since D.state origin disk.new engine.new w) }
