@@ -12,8 +12,8 @@ ghost use Rattle.cdb_cut.specs.inside.OneTile.{older_rule};
 use cdb_grid::Tile;
 use cdb_source::{Kind, kind_of};
 
-/// The number of a frame where it has a value, else the older one.
-fn or_older(kind: Kind, none: i16, own: i16, older: i16) -> i16
+/// The number of a frame where it has a value, else the older one. `none` stands for no value.
+pub fn or_older(kind: Kind, none: i16, own: i16, older: i16) -> i16
     requires { none ≡ none_of kind }
     ensures { result ≡ coded kind (option_or (value_of kind own) (value_of kind older)) }
 {

@@ -15,7 +15,7 @@ mod source_rows;
 mod tile_part;
 mod walk;
 
-pub use filling::fill;
+pub use filling::{fill, or_older};
 pub use folding::{clear, elevation_tile, fold};
 pub use painting::paint;
 pub use sampling::{sample, sample_at};

@@ -1,7 +1,8 @@
 -- The file of a tile as the reader of TIFF files reads it.
 use Rattle.std.specs.Prelude.{◌≡◌, ℕ, ◌+◌, ◌*◌, ◌-◌, ◌<◌, ℤ, pos, List, ◌++◌, length, get_or, All, FitsSigned, None}
 use Rattle.std.specs.Int.{w16}
-use Rattle.cdb_tiff_write.specs.Samples.{sample_in}
+use Rattle.cdb_tiff_write.specs.Samples.{sample_in, frame_in}
+use Rattle.cdb_cut.specs.OneTile.{IsFrameOf}
 use Rattle.cdb_grid.specs.Tiles.{tile_side}
 use Rattle.cdb_grid.specs.declared.tile.Tile.{Tile}
 use Rattle.cdb_source.specs.Posts.{IsPost, coded}
@@ -24,6 +25,10 @@ pub record TilesAreRead : Type 0 where
 abbrev pub SamplesAreValues : Type 0
 SamplesAreValues = (ss : List Source) (t : Tile) (row col : ℕ) → row < tile_side t → col < tile_side t
     → sample_in (bits_of t.family) (tile_bytes ss t) ((tile_side t - 1 - row) * tile_side t + col) ≡ coded (kind_of t.family) (tile_value ss t row col)
+
+-- the frame in the file of a tile has the tile's numbers
+abbrev pub FramesAreOfTiles : Type 0
+FramesAreOfTiles = (ss : List Source) (t : Tile) → IsFrameOf ss t (frame_in (bits_of t.family) (tile_bytes ss t) (tile_side t))
 
 -- the samples of a file whose rows are written one by one, the north row first, are the numbers of the rows
 pub record AreReadBack : Type 0 where

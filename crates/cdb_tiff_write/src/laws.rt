@@ -1,6 +1,6 @@
 //! Laws of the bytes of a tile's file, each the contract of a function that does nothing.
 ghost use Rattle.cdb_model.specs.ByteLaws.{BytesByReaching, IsWrittenTile};
-ghost use Rattle.cdb_tiff_write.specs.ReadLaws.{TilesAreRead, AreReadBack, SamplesAreValues};
+ghost use Rattle.cdb_tiff_write.specs.ReadLaws.{TilesAreRead, AreReadBack, SamplesAreValues, FramesAreOfTiles};
 ghost use Rattle.cdb_tiff_write.specs.SizeLaws.{TilesAreSized};
 
 /// A tile's file depends on the sources that reach the tile, in their order, and on no other: what
@@ -25,6 +25,11 @@ pub fn tiles_are_read()
 /// The samples of the file of a tile are the tile's values.
 pub fn samples_are_values()
     ensures { SamplesAreValues }
+{}
+
+/// The frame in the file of a tile, the south row first, has the tile's numbers.
+pub fn frames_are_of_tiles()
+    ensures { FramesAreOfTiles }
 {}
 
 /// The samples of a file are the numbers of the rows that were written into it, in two bytes each

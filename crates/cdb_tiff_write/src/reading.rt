@@ -7,10 +7,10 @@ ghost use Rattle.cdb_source.specs.declared.source.Source as sources;
 ghost use Rattle.cdb_model.specs.TileFile.{bits_of, tile_bytes};
 ghost use Rattle.cdb_cut.specs.OneTile.{IsFrameOf};
 ghost use Rattle.cdb_tiff_write.specs.Samples.{sample_in, HasRaster};
-ghost use Rattle.cdb_model.specs.declared.limits.TheConstants.{MOST_TILE_VALUES};
+ghost use Rattle.cdb_model.specs.declared.limits.TheConstants.{MOST_TILE_VALUES, TILE_HEAD_BYTES};
 
+use crate::samples::{octet_sample, short_sample};
 use cdb_grid::{RowRule, Spot, change_part};
-use cdb_model::TILE_HEAD_BYTES;
 
 /// The raster of a tile's file.
 #[derive(Clone, Copy)]
@@ -29,10 +29,9 @@ fn sample(bytes: &[u8], bits: u8, number: usize) -> i16
     ensures { result ≡ sample_in bits bytes.now number }
 {
     if bits == 8 {
-        bytes[TILE_HEAD_BYTES + number] as i16
+        octet_sample(bytes, number)
     } else {
-        let at = TILE_HEAD_BYTES + 2 * number;
-        i16::from_le_bytes([bytes[at], bytes[at + 1]])
+        short_sample(bytes, number)
     }
 }
 
