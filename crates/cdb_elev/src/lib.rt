@@ -8,9 +8,10 @@ ghost use Rattle.cdb_source.specs.Folds.{finer_elevation};
 use cdb_grid::{FourRule, Spot, fold_four};
 use cdb_source::Kind;
 
-/// The even posts: those that stand at the corners of the coarser cells.
+/// The even posts: an element takes the elevation of the finer element that stands at the same corner,
+/// where that has one. -32768 stands for no value.
 #[derive(Clone, Copy)]
-struct EvenPosts;
+pub struct EvenPosts;
 
 impl FourRule for EvenPosts {
     ghost of_four = { finer_elevation };

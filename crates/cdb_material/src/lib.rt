@@ -36,8 +36,10 @@ fn or_own(material: Option<i16>, own: i16) -> i16
     }
 }
 
+/// A cell takes the most frequent material of its four finer cells, and of equally frequent ones the
+/// smallest, where one of the four has a value. 0 stands for no value.
 #[derive(Clone, Copy)]
-struct MostFrequent;
+pub struct MostFrequent;
 
 impl FourRule for MostFrequent {
     ghost of_four = { finer_material };

@@ -35,8 +35,10 @@ fn greater(a: i16, b: i16) -> i16
     if a < b { b } else { a }
 }
 
+/// An element becomes the least of its own elevation and of the four finer ones in its cell, those
+/// without a value, which -32768 stands for, passed over.
 #[derive(Clone, Copy)]
-struct Least;
+pub struct Least;
 
 impl FourRule for Least {
     ghost of_four = { finer_low };
@@ -55,8 +57,9 @@ impl FourRule for Least {
     }
 }
 
+/// The same of the greatest elevations.
 #[derive(Clone, Copy)]
-struct Greatest;
+pub struct Greatest;
 
 impl FourRule for Greatest {
     ghost of_four = { finer_high };

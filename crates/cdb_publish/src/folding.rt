@@ -1,41 +1,75 @@
 //! The finer tiles under a tile, folded in one after the other.
-ghost use Rattle.std.specs.Prelude.{◌≡◌, ℕ, ◌+◌, ◌*◌, ◌≤◌, ◌++◌, ◌∷◌, [], List, ℤ, Option, All, length};
+ghost use Rattle.std.specs.Prelude.{◌≡◌, ℕ, ◌+◌, ◌*◌, ◌/◌, ◌%◌, ◌≤◌, ◌++◌, ◌∷◌, [], List, ℤ, Option, All, length};
+ghost use Rattle.std.specs.Prelude.{◌==◌, ◌||◌, IsTrue};
 ghost use Rattle.std.specs.Prelude.{OnOk, IfErr};
 ghost use Rattle.cdb_grid.specs.Children.{IsParent};
+ghost use Rattle.cdb_grid.specs.Frames.{IsPartChanged, four_under};
 ghost use Rattle.cdb_grid.specs.Tiles.{tile_side};
 ghost use Rattle.cdb_grid.specs.declared.tile.Tile as grid;
 ghost use Rattle.cdb_source.specs.declared.source.Source as given;
 ghost use Rattle.cdb_files.specs.Moments.{Rests};
-ghost use Rattle.cdb_cut.specs.OneTile.{IsFolded, IsWholeFolded};
+ghost use Rattle.cdb_cut.specs.OneTile.{four_rule, IsFolded, IsWholeFolded};
 ghost use Rattle.cdb_publish.specs.Causes.{IsCaused};
 ghost use Rattle.cdb_cut.specs.FinerTiles.{AreChildren, IsPlain};
+ghost use Rattle.cdb_tiff_write.specs.Samples.{frame_in};
 ghost use Rattle.cdb_publish.specs.LookUps.{look, needs_of, child_needs};
 ghost use Rattle.cdb_publish.specs.inside.LookUps.{IsNamed};
 ghost use Rattle.cdb_publish.specs.Needs.{TellsSizes, IsDamage};
+ghost use Rattle.cdb_model.specs.declared.limits.TheConstants.{MOST_TILE_BYTES, TILE_HEAD_BYTES};
 
 use crate::errors::StepError;
 use crate::look_up::look;
 use crate::plan::Plan;
 use crate::tile_read::read_named;
 use cdb_chain::Chain;
-use cdb_cut::fold;
+use cdb_elev::EvenPosts;
 use cdb_files::Disk;
-use cdb_grid::{Tile, side, spot_of};
+use cdb_grid::{Family, Spot, Tile, side, spot_of};
+use cdb_material::MostFrequent;
+use cdb_minmax::{Greatest, Least};
+use cdb_tiff_write::{bits, fold_file, tile_size};
 
-/// Folds one finer tile in, where it is named. `bytes` and `scratch` have room for the largest tile.
+/// Folds the file of a finer tile into the part of a frame that it stands under, by the rule of its
+/// family. `side` is the number of its elements along one side, and `bits` those of an element.
+fn fold(
+    family: Family,
+    bytes: &[u8],
+    side: u32,
+    bits: u8,
+    spot: Spot,
+    frame: &mut [i16],
+    frame_side: u32,
+)
+    requires bits { IsTrue (bits == 8 || bits == 16) }
+    requires even { side % 2 ≡ 0 }
+    requires side { side ≤ 1024 }
+    requires bytes { length bytes.now ≡ TILE_HEAD_BYTES + side * side * (bits / 8) }
+    requires frame { length frame.old ≡ frame_side * frame_side }
+    requires row_fits { spot.row + side / 2 ≤ frame_side }
+    requires col_fits { spot.col + side / 2 ≤ frame_side }
+    ensures { IsPartChanged (four_under (four_rule family) (frame_in bits bytes.now side) side)
+        spot.row spot.col (side / 2) (side / 2) frame_side frame.old frame.new }
+{
+    match family {
+        Family::Elev => fold_file(&EvenPosts, bytes, side, bits, spot, frame, frame_side),
+        Family::Low => fold_file(&Least, bytes, side, bits, spot, frame, frame_side),
+        Family::High => fold_file(&Greatest, bytes, side, bits, spot, frame, frame_side),
+        Family::Mat => fold_file(&MostFrequent, bytes, side, bits, spot, frame, frame_side),
+    }
+}
+
+/// Folds one finer tile in, where it is named. `bytes` has room for the largest tile.
 fn fold_child<D: Disk>(
     plan: &Plan,
     chain: &Chain,
     tile: &Tile,
     child: &Tile,
     bytes: &mut [u8],
-    scratch: &mut [i16],
     frame: &mut [i16],
     disk: &mut D,
 ) -> Result<(), StepError>
     requires parent { IsParent child.now tile.now }
-    requires bytes { 2097338 ≤ length bytes.old }
-    requires scratch { 1048576 ≤ length scratch.old }
+    requires bytes { MOST_TILE_BYTES ≤ length bytes.old }
     requires frame { length frame.old ≡ tile_side tile.now * tile_side tile.now }
     ensures folded { D.tells → (ss : List given.Source) (start : ℕ → ℕ → Option ℤ) (done : List grid.Tile)
         → IsNamed (D.state disk.old).present ss child.now (look plan.now chain.now.records child.now)
@@ -53,11 +87,19 @@ fn fold_child<D: Disk>(
     let version = look(plan, chain, child);
     let spot = spot_of(child);
     let child_side = side(child.level);
-    let size = child_side as usize * child_side as usize;
-    let part = &mut scratch[..size];
-    match read_named(version, child, bytes, part, disk) {
+    let bits = bits(child.family);
+    let bytes = &mut bytes[..tile_size(child)];
+    match read_named(version, child, bytes, disk) {
         Ok(true) => {
-            fold(tile.family, part, child_side, spot, frame, side(tile.level));
+            fold(
+                tile.family,
+                bytes,
+                child_side,
+                bits,
+                spot,
+                frame,
+                side(tile.level),
+            );
             Ok(())
         }
         Ok(false) => Ok(()),
@@ -72,13 +114,11 @@ pub(crate) fn fold_children<D: Disk>(
     tile: &Tile,
     children: &[Tile],
     bytes: &mut [u8],
-    scratch: &mut [i16],
     frame: &mut [i16],
     disk: &mut D,
 ) -> Result<(), StepError>
     requires children { AreChildren tile.now children.now }
-    requires bytes { 2097338 ≤ length bytes.old }
-    requires scratch { 1048576 ≤ length scratch.old }
+    requires bytes { MOST_TILE_BYTES ≤ length bytes.old }
     requires frame { length frame.old ≡ tile_side tile.now * tile_side tile.now }
     ensures folded { D.tells → (ss : List given.Source) (start : ℕ → ℕ → Option ℤ)
         → All (λ c. IsNamed (D.state disk.old).present ss c (look plan.now chain.now.records c)) children.now
@@ -94,7 +134,7 @@ pub(crate) fn fold_children<D: Disk>(
         (child_needs plan.now chain.now.records children.now) }
 {
     for child in children {
-        match fold_child(plan, chain, tile, child, bytes, scratch, frame, disk) {
+        match fold_child(plan, chain, tile, child, bytes, frame, disk) {
             Ok(()) => {}
             Err(error) => return Err(error),
         }

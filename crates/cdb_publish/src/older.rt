@@ -9,30 +9,28 @@ ghost use Rattle.cdb_publish.specs.Causes.{IsCaused};
 ghost use Rattle.cdb_publish.specs.LookUps.{look_before, needs_of};
 ghost use Rattle.cdb_publish.specs.inside.LookUps.{IsNamed};
 ghost use Rattle.cdb_publish.specs.Needs.{TellsSizes, IsDamage};
-ghost use Rattle.cdb_model.specs.declared.limits.TheConstants.{MOST_TILE_BYTES, MOST_TILE_VALUES};
+ghost use Rattle.cdb_model.specs.declared.limits.TheConstants.{MOST_TILE_BYTES};
 
 use crate::errors::StepError;
 use crate::look_up::look_before;
 use crate::plan::Plan;
 use crate::tile_read::read_named;
 use cdb_chain::Chain;
-use cdb_cut::fill;
 use cdb_files::Disk;
-use cdb_grid::{Tile, side};
+use cdb_grid::Tile;
+use cdb_tiff_write::{fill_file, tile_size};
 
-/// Fills what has no value from the newest earlier tile, where there is one. `bytes` and `scratch` have
-/// room for the largest tile.
+/// Fills what has no value from the newest earlier tile, where there is one. `bytes` has room for the
+/// largest tile.
 pub(crate) fn fill_older<D: Disk>(
     plan: &Plan,
     chain: &Chain,
     tile: &Tile,
     bytes: &mut [u8],
-    scratch: &mut [i16],
     frame: &mut [i16],
     disk: &mut D,
 ) -> Result<(), StepError>
     requires bytes { MOST_TILE_BYTES ≤ length bytes.old }
-    requires scratch { MOST_TILE_VALUES ≤ length scratch.old }
     requires frame { length frame.old ≡ tile_side tile.now * tile_side tile.now }
     ensures filled { D.tells → (ss x : List given.Source) → IsOwn tile.now.family
         → IsNamed (D.state disk.old).present ss tile.now (look_before plan.now chain.now.records tile.now)
@@ -47,11 +45,10 @@ pub(crate) fn fill_older<D: Disk>(
         (look_before plan.now chain.now.records tile.now)) }
 {
     let version = look_before(plan, chain, tile);
-    let size = side(tile.level) as usize * side(tile.level) as usize;
-    let older = &mut scratch[..size];
-    match read_named(version, tile, bytes, older, disk) {
+    let bytes = &mut bytes[..tile_size(tile)];
+    match read_named(version, tile, bytes, disk) {
         Ok(true) => {
-            fill(tile, older, frame);
+            fill_file(tile, bytes, frame);
             Ok(())
         }
         Ok(false) => Ok(()),

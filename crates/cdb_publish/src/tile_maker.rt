@@ -14,6 +14,7 @@ ghost use Rattle.cdb_cut.specs.FinerTiles.{AreChildren};
 ghost use Rattle.cdb_publish.specs.TileFiles.{family_needs, TileNeeds};
 ghost use Rattle.cdb_publish.specs.Needs.{TellsSizes, IsDamage};
 ghost use Rattle.cdb_publish.specs.Windows.{HasRoom};
+ghost use Rattle.cdb_model.specs.declared.limits.TheConstants.{MOST_TILE_BYTES, MOST_TILE_VALUES};
 
 use crate::errors::StepError;
 use crate::plan::Plan;
@@ -23,9 +24,9 @@ use cdb_files::Disk;
 use cdb_grid::{children, side};
 use cdb_tiff_write::{put_file, tile_size};
 
-/// Makes the file of the tile of this number at the front of `bytes`, and answers its length. `bytes`,
-/// `scratch` and `frame` have room for the largest tile, the first two for the rows of each source that
-/// the tile takes as well.
+/// Makes the file of the tile of this number at the front of `bytes`, and answers its length. `bytes` and
+/// `frame` have room for the largest tile, and `bytes` and `scratch` for the rows of each source that the
+/// tile takes.
 pub(crate) fn make_tile<D: Disk>(
     plan: &Plan,
     number: usize,
@@ -36,9 +37,8 @@ pub(crate) fn make_tile<D: Disk>(
     disk: &mut D,
 ) -> Result<usize, StepError>
     requires number { number < length plan.now.record.tiles }
-    requires bytes { 2097338 ≤ length bytes.old }
-    requires scratch { 1048576 ≤ length scratch.old }
-    requires frame { 1048576 ≤ length frame.old }
+    requires bytes { MOST_TILE_BYTES ≤ length bytes.old }
+    requires frame { MOST_TILE_VALUES ≤ length frame.old }
     requires room { (t : grid.Tile) → slice_get plan.now.record.tiles number ≡ Some t
         → HasRoom plan.now.record.heads t (length scratch.old) }
     requires row_bytes { 2 * length scratch.old ≤ length bytes.old }

@@ -10,8 +10,9 @@ ghost use Rattle.cdb_cut.specs.OneTile.{IsFrameOf};
 ghost use Rattle.cdb_tiff_write.specs.Rasters.{tile_size};
 ghost use Rattle.cdb_publish.specs.Causes.{IsCaused};
 ghost use Rattle.cdb_publish.specs.LookUps.{needs_of};
-ghost use Rattle.cdb_publish.specs.inside.LookUps.{IsNamed, IsReadFrame};
+ghost use Rattle.cdb_publish.specs.inside.LookUps.{IsNamed, IsReadFile};
 ghost use Rattle.cdb_publish.specs.Needs.{TellsSizes, IsDamage};
+ghost use Rattle.cdb_model.specs.declared.limits.TheConstants.{MOST_TILE_BYTES, MOST_VERSIONS};
 
 use crate::errors::StepError;
 use crate::reads::read_sized;
@@ -19,6 +20,29 @@ use cdb_files::Disk;
 use cdb_grid::{Tile, side};
 use cdb_names::write_path;
 use cdb_tiff_write::{bits, posts_of, tile_size};
+
+/// Reads the file of a version's tile. `bytes` has the length of the file.
+fn read_version<D: Disk>(
+    version: u32,
+    tile: &Tile,
+    bytes: &mut [u8],
+    disk: &mut D,
+) -> Result<(), StepError>
+    requires least { 1 ≤ version }
+    requires most { version ≤ MOST_VERSIONS }
+    requires bytes { length bytes.old ≡ tile_size tile.now }
+    ensures read { D.tells → OnOk result ((D.state disk.old).present (path version tile.now) ≡ Some bytes.new) }
+    ensures sizes { D.tells → TellsSizes (D.state disk.old).present
+        (record { path = path version tile.now; size = tile_size tile.now } ∷ []) result }
+    ensures damage { IfErr result IsDamage }
+    ensures state { D.state disk.new ≡ D.state disk.old }
+    ensures time { Rests (D.clock disk.old) (D.clock disk.new) (D.since disk.old) (D.since disk.new) }
+    ensures cause { IsCaused (D.fault_count disk.old) (D.fault_count disk.new) result }
+    ensures reads { D.read_count disk.new ≤ D.read_count disk.old + 1 }
+{
+    let path = write_path(version, tile);
+    read_sized(disk, &path, bytes)
+}
 
 /// Reads the values of a version's tile, the south row first. `bytes` has room for the largest tile.
 pub(crate) fn read_tile<D: Disk>(
@@ -29,8 +53,8 @@ pub(crate) fn read_tile<D: Disk>(
     disk: &mut D,
 ) -> Result<(), StepError>
     requires least { 1 ≤ version }
-    requires most { version ≤ 4096 }
-    requires bytes { 2097338 ≤ length bytes.old }
+    requires most { version ≤ MOST_VERSIONS }
+    requires bytes { MOST_TILE_BYTES ≤ length bytes.old }
     requires frame { length frame.old ≡ tile_side tile.now * tile_side tile.now }
     ensures frame { D.tells → (ss : List given.Source) → (D.state disk.old).present (path version tile.now) ≡ Some
         (tile_bytes ss tile.now) → OnOk result (IsFrameOf ss tile.now frame.new) }
@@ -42,9 +66,8 @@ pub(crate) fn read_tile<D: Disk>(
     ensures cause { IsCaused (D.fault_count disk.old) (D.fault_count disk.new) result }
     ensures reads { D.read_count disk.new ≤ D.read_count disk.old + 1 }
 {
-    let path = write_path(version, tile);
     let bytes = &mut bytes[..tile_size(tile)];
-    match read_sized(disk, &path, bytes) {
+    match read_version(version, tile, bytes, disk) {
         Ok(()) => {}
         Err(error) => return Err(error),
     }
@@ -52,21 +75,19 @@ pub(crate) fn read_tile<D: Disk>(
     Ok(())
 }
 
-/// Reads the values of the tile that a look-up named, and says whether it named one. `bytes` and `frame`
-/// have room for the largest tile.
+/// Reads the file of the tile that a look-up named, and says whether it named one. `bytes` has the
+/// length of the file.
 pub(crate) fn read_named<D: Disk>(
     version: Option<u32>,
     tile: &Tile,
     bytes: &mut [u8],
-    frame: &mut [i16],
     disk: &mut D,
 ) -> Result<bool, StepError>
     requires least { IfSome version (λ v. 1 ≤ v) }
-    requires most { IfSome version (λ v. v ≤ 4096) }
-    requires bytes { 2097338 ≤ length bytes.old }
-    requires frame { length frame.old ≡ tile_side tile.now * tile_side tile.now }
-    ensures frame { D.tells → (ss : List given.Source) → IsNamed (D.state disk.old).present ss tile.now version
-        → IfOk result (IsReadFrame ss tile.now frame.new) }
+    requires most { IfSome version (λ v. v ≤ MOST_VERSIONS) }
+    requires bytes { length bytes.old ≡ tile_size tile.now }
+    ensures read { D.tells → (ss : List given.Source) → IsNamed (D.state disk.old).present ss tile.now version
+        → IfOk result (IsReadFile ss tile.now bytes.new) }
     ensures sizes { D.tells → TellsSizes (D.state disk.old).present (needs_of tile.now version) result }
     ensures damage { IfErr result IsDamage }
     ensures state { D.state disk.new ≡ D.state disk.old }
@@ -77,7 +98,7 @@ pub(crate) fn read_named<D: Disk>(
     let Some(version) = version else {
         return Ok(false);
     };
-    match read_tile(version, tile, bytes, frame, disk) {
+    match read_version(version, tile, bytes, disk) {
         Ok(()) => Ok(true),
         Err(error) => Err(error),
     }

@@ -11,6 +11,7 @@ ghost use Rattle.cdb_publish.specs.TileFiles.{own_needs, extreme_needs, family_n
 ghost use Rattle.cdb_publish.specs.inside.TileFiles.{HasFilesFor};
 ghost use Rattle.cdb_publish.specs.Needs.{TellsSizes, IsDamage};
 ghost use Rattle.cdb_publish.specs.Windows.{HasRoom};
+ghost use Rattle.cdb_model.specs.declared.limits.TheConstants.{MOST_TILE_BYTES};
 
 use crate::errors::StepError;
 use crate::folding::fold_children;
@@ -36,8 +37,7 @@ fn make_own<D: Disk>(
 ) -> Result<(), StepError>
     requires own { IsOwn tile.now.family }
     requires children { AreChildren tile.now children.now }
-    requires bytes { 2097338 ≤ length bytes.old }
-    requires scratch { 1048576 ≤ length scratch.old }
+    requires bytes { MOST_TILE_BYTES ≤ length bytes.old }
     requires room { HasRoom plan.now.record.heads tile.now (length scratch.old) }
     requires row_bytes { 2 * length scratch.old ≤ length bytes.old }
     requires frame { length frame.old ≡ tile_side tile.now * tile_side tile.now }
@@ -54,7 +54,7 @@ fn make_own<D: Disk>(
         (own_needs plan.now chain.now.records tile.now children.now) }
 {
     clear(tile, frame);
-    match fold_children(plan, chain, tile, children, bytes, scratch, frame, disk) {
+    match fold_children(plan, chain, tile, children, bytes, frame, disk) {
         Ok(()) => {}
         Err(error) => return Err(error),
     }
@@ -62,7 +62,7 @@ fn make_own<D: Disk>(
         Ok(()) => {}
         Err(error) => return Err(error),
     }
-    match fill_older(plan, chain, tile, bytes, scratch, frame, disk) {
+    match fill_older(plan, chain, tile, bytes, frame, disk) {
         Ok(()) => Ok(()),
         Err(error) => Err(error),
     }
@@ -75,14 +75,12 @@ fn make_extreme<D: Disk>(
     tile: &Tile,
     children: &[Tile],
     bytes: &mut [u8],
-    scratch: &mut [i16],
     frame: &mut [i16],
     disk: &mut D,
 ) -> Result<(), StepError>
     requires extreme { IsExtreme tile.now.family }
     requires children { AreChildren tile.now children.now }
-    requires bytes { 2097338 ≤ length bytes.old }
-    requires scratch { 1048576 ≤ length scratch.old }
+    requires bytes { MOST_TILE_BYTES ≤ length bytes.old }
     requires frame { length frame.old ≡ tile_side tile.now * tile_side tile.now }
     ensures values { D.tells → (ss x : List given.Source)
         → HasFilesFor plan.now chain.now.records (D.state disk.old).present ss x tile.now children.now
@@ -101,14 +99,14 @@ fn make_extreme<D: Disk>(
         Ok(()) => {}
         Err(error) => return Err(error),
     }
-    match fold_children(plan, chain, tile, children, bytes, scratch, frame, disk) {
+    match fold_children(plan, chain, tile, children, bytes, frame, disk) {
         Ok(()) => Ok(()),
         Err(error) => Err(error),
     }
 }
 
-/// Makes the values of a tile. `bytes` and `scratch` have room for the largest tile, and for the rows of
-/// each source that the tile takes.
+/// Makes the values of a tile. `bytes` has room for the largest tile, and both it and `scratch` for the
+/// rows of each source that the tile takes.
 pub(crate) fn make_values<D: Disk>(
     plan: &Plan,
     chain: &Chain,
@@ -120,8 +118,7 @@ pub(crate) fn make_values<D: Disk>(
     disk: &mut D,
 ) -> Result<(), StepError>
     requires children { AreChildren tile.now children.now }
-    requires bytes { 2097338 ≤ length bytes.old }
-    requires scratch { 1048576 ≤ length scratch.old }
+    requires bytes { MOST_TILE_BYTES ≤ length bytes.old }
     requires room { HasRoom plan.now.record.heads tile.now (length scratch.old) }
     requires row_bytes { 2 * length scratch.old ≤ length bytes.old }
     requires frame { length frame.old ≡ tile_side tile.now * tile_side tile.now }
@@ -142,7 +139,7 @@ pub(crate) fn make_values<D: Disk>(
             make_own(plan, chain, tile, children, bytes, scratch, frame, disk)
         }
         Family::Low | Family::High => {
-            make_extreme(plan, chain, tile, children, bytes, scratch, frame, disk)
+            make_extreme(plan, chain, tile, children, bytes, frame, disk)
         }
     }
 }

@@ -1,19 +1,14 @@
-use Rattle.std.proofs.Common.{ℕ, ◌++◌, ◌∙◌, length-append, sym, subst, arith}
+use Rattle.std.proofs.Common.{◌++◌, ◌∙◌, length-append, sym, subst, arith}
 use Rattle.cdb_files.specs.Disk.{State}
 use Rattle.cdb_cut.specs.OneTile.{no_values}
 use Rattle.cdb_cut.proofs.OneTileWhole.{paint_start}
 use Rattle.cdb_publish.specs.LookUps.{child_needs, needs_of, look_before}
 use Rattle.cdb_publish.specs.inside.LookUps.{IsNamed}
 use Rattle.cdb_publish.specs.Needs.{AreSized, TellsError}
-use Rattle.cdb_publish.specs.Windows.{window_needs, HasRoom}
+use Rattle.cdb_publish.specs.Windows.{window_needs}
 use Rattle.cdb_publish.specs.inside.Windows.{HasSources}
 use Rattle.cdb_publish.proofs.Sizes.{error_before, error_later, sized-append}
 use Rattle.cdb_publish.proofs.tile_values.make_own.Goals as goal
-
-pub paint_sources-requires-clause-room : goal.paint_sources-requires-clause-room
-paint_sources-requires-clause-room g c =
-    let R : ℕ → Type 0 = λ n. HasRoom c.args.plan.now.record.heads c.args.tile.now n in
-    subst R (sym c.fold_children.auto.scratch) c.requires.room
 
 pub returns-in-Err-clause-sizes : goal.returns-in-Err-clause-sizes
 returns-in-Err-clause-sizes g c told =
