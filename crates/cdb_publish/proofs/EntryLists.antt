@@ -7,4 +7,11 @@ use Rattle.cdb_publish.specs.Entries.{entries_in}
 pub entries_few : (records : List Record) → entries_in records ≤ 16384 * length records
 entries_few [] = omega arith
 entries_few (r ∷ records) = let more : length (r ∷ records) ≡ length records + 1 = omega arith in
-    omega (arith, entries_few records, r.in_range.tiles_most, sum_by-cons (λ (q : Record). length q.tiles) r records, more)
+    omega (
+      arith,
+      entries_few records,
+      r.in_range.tiles_most,
+      sum_by-cons (λ (q : Record). length q.tiles)
+          r records,
+      more,
+    )

@@ -14,9 +14,11 @@ use Rattle.cdb_chain.specs.LookUps.{is_listed}
 
 sorted : (tiles : List Tile) → Ascending tiles → IsSorted tile_cmp tiles
 sorted tiles up k d a b =
-    ap is_lt (tile_cmp-total.antisymm (get_or tiles (k + 1) d) (get_or tiles k d) ∙ ap ordering_reverse (up k (k + 1) d (omega arith) b))
+    ap is_lt (tile_cmp-total.antisymm (get_or tiles (k + 1) d) (get_or tiles k d)
+    ∙ ap ordering_reverse (up k (k + 1) d (omega arith) b))
 
-pub not_listed : (tiles : List Tile) (t : Tile) (at : ℕ) → Ascending tiles → IsBinarySearchResult (λ y. tile_cmp y t) tiles (Err at) → false ≡ is_listed tiles t
+pub not_listed : (tiles : List Tile) (t : Tile) (at : ℕ) → Ascending tiles
+    → IsBinarySearchResult (λ y. tile_cmp y t) tiles (Err at) → false ≡ is_listed tiles t
 not_listed tiles t at up position =
     let cut : IsPartitionPoint (λ y. tile_cmp y t ≡ Less) (λ y. tile_cmp y t ≡ Greater) tiles at =
     position (searchable_from_sorted tile_cmp-total (λ (u : Tile). u) tiles t (sorted tiles up)) in
@@ -25,5 +27,6 @@ not_listed tiles t at up position =
       | inr above ↦ ap is_eq (cut.1 k d above l)
     ]))
 
-pub listed_at : (tiles : List Tile) (t : Tile) (k : ℕ) → k < length tiles → HoldsAt (λ y. tile_cmp y t ≡ Equal) tiles k → true ≡ is_listed tiles t
+pub listed_at : (tiles : List Tile) (t : Tile) (k : ℕ) → k < length tiles → HoldsAt (λ y. tile_cmp y t ≡ Equal) tiles k
+    → true ≡ is_listed tiles t
 listed_at tiles t k l h = sym (list_any_at (λ u. is_eq (tile_cmp u t)) tiles k t l (ap is_eq (h t)))

@@ -50,7 +50,8 @@ place_of xs x c = (c.0, got xs c.0 x c.1 (sym c.2))
 
 -- ---- the tiles of records
 
-mapped : {A B : Type 0} (f : A → B) (xs : List A) (k : ℕ) (y : B) → slice_get (map f xs) k ≡ Some y → (x : A) × (slice_get xs k ≡ Some x) × (f x ≡ y)
+mapped : {A B : Type 0} (f : A → B) (xs : List A) (k : ℕ) (y : B) → slice_get (map f xs) k ≡ Some y
+    → (x : A) × (slice_get xs k ≡ Some x) × (f x ≡ y)
 mapped f [] k y e = absurd cc
 mapped f (x ∷ xs) zero y e = (x, refl, some_is (f x) y e)
 mapped f (x ∷ xs) (suc k) y e = mapped f xs k y e
@@ -66,7 +67,8 @@ listed_tiles kept P are = record {
       subst T m.2 (are.tiles k m.0 x m.1 there);
 }
 
-module _ (bytes : BytesByReaching) (p : Plan) (kept : List Record) (P : List (List Source)) (x : List Source) (number : ℕ) (s : State) (plans : Plans p P x) (are : AreRecords kept P)
+module _ (bytes : BytesByReaching) (p : Plan) (kept : List Record) (P : List (List Source)) (x : List Source)
+    (number : ℕ) (s : State) (plans : Plans p P x) (are : AreRecords kept P)
     (here : IsImage s s.present) (mid : IsMidAfter P x p.record.tiles (length x + number) s) where
   stands : Stands s.present P
   stands = mid.whole.stands s.present here
@@ -81,11 +83,13 @@ module _ (bytes : BytesByReaching) (p : Plan) (kept : List Record) (P : List (Li
   before = omega (arith, plans.version)
 
   -- what the records say, by their numbers
-  unlisted : (t : Tile) → Answer kept (length P) t None → (j : ℕ) (q : Record) → slice_get kept j ≡ Some q → Contains q.tiles t → ⊥
+  unlisted : (t : Tile) → Answer kept (length P) t None → (j : ℕ) (q : Record) → slice_get kept j ≡ Some q
+      → Contains q.tiles t → ⊥
   unlisted t none j q at has =
       let l : j < length kept = in_range kept j q at in
       let version : q.version ≡ j + 1 = are.versions j q at in
-      none q.version (omega (arith, l, version, are.count)) (record { item = q; among = (j, l, get_or_from_slice_get kept j q q at); version_is = refl; listed = has })
+      none q.version (omega (arith, l, version, are.count))
+      (record { item = q; among = (j, l, get_or_from_slice_get kept j q q at); version_is = refl; listed = has })
 
   named_before_by : (t : Tile) (o : Option ℕ) → Answer kept (length P) t o → IsNamed s.present (sources_of P) t o
   named_before_by t None none = none_before (tiles_in kept) P t (listed_tiles kept P are) (λ j tiles at has.
@@ -97,7 +101,8 @@ module _ (bytes : BytesByReaching) (p : Plan) (kept : List Record) (P : List (Li
       let k = place_of kept item newest.has.among in
       let version : v ≡ k.0 + 1 = sym newest.has.version_is ∙ are.versions k.0 item k.1 in
       ap (λ n. s.present (path n t)) version
-      ∙ newest_before bytes s.present (tiles_in kept) P t k.0 item.tiles stands (listed_tiles kept P are) (get-map (λ (r : Record). r.tiles) kept k.0 item k.1) newest.has.listed (λ j tiles above at has.
+      ∙ newest_before bytes s.present (tiles_in kept) P t k.0 item.tiles stands (listed_tiles kept P are)
+      (get-map (λ (r : Record). r.tiles) kept k.0 item k.1) newest.has.listed (λ j tiles above at has.
       let m = mapped (λ (r : Record). r.tiles) kept j tiles at in
       let q : Record = m.0 in
       let C : List Tile → Type 0 = λ ts. Contains ts t in
@@ -112,30 +117,40 @@ module _ (bytes : BytesByReaching) (p : Plan) (kept : List Record) (P : List (Li
       omega (arith, le, q_version, version, above))
 
   pub named_before : (t : Tile) → IsNamed s.present (sources_of P) t (look_before p kept t)
-  named_before t = subst (λ v. IsNamed s.present (sources_of P) t (found_in v kept t)) (sym before) (named_before_by t (found_in (length P) kept t) (found_answers (length P) kept t))
+  named_before t = subst (λ v. IsNamed s.present (sources_of P) t (found_in v kept t)) (sym before)
+      (named_before_by t (found_in (length P) kept t) (found_answers (length P) kept t))
 
   -- where the publication doesn't reach the tile, the same of all its sources
-  untouched_too : (t : Tile) (o : Option ℕ) → (Reached (heads_of x) t → ⊥) → IsNamed s.present (sources_of P) t o → IsNamed s.present (sources_of P ++ x) t o
-  untouched_too t None never none = All-append (λ (r : Source). Reaches r.head t → ⊥) (sources_of P) x none (none_reach t x never)
+  untouched_too : (t : Tile) (o : Option ℕ) → (Reached (heads_of x) t → ⊥) → IsNamed s.present (sources_of P) t o
+      → IsNamed s.present (sources_of P ++ x) t o
+  untouched_too t None never none = All-append (λ (r : Source). Reaches r.head t → ⊥) (sources_of P) x none
+      (none_reach t x never)
   untouched_too t (Some v) never there = there ∙ ap (λ b. Some b) (same_after bytes P x t never)
 
-  pub own_there : (t : Tile) (i : ℕ) → slice_get p.record.tiles i ≡ Some t → i < number → s.present (path p.record.version t) ≡ Some (tile_bytes (sources_of P ++ x) t)
+  pub own_there : (t : Tile) (i : ℕ) → slice_get p.record.tiles i ≡ Some t → i < number
+      → s.present (path p.record.version t) ≡ Some (tile_bytes (sources_of P ++ x) t)
   own_there t i at below =
       ap (λ n. s.present (path n t)) plans.version
       ∙ newest_own P x p.record.tiles plans.list plans.touched (length x + number) i s t mid at (omega arith)
       ∙ ap (λ ss. Some (tile_bytes ss t)) all_is
 
-  pub named : (t : Tile) → ((i : ℕ) → slice_get p.record.tiles i ≡ Some t → i < number) → IsNamed s.present (sources_of P ++ x) t (look p kept t)
+  pub named : (t : Tile) → ((i : ℕ) → slice_get p.record.tiles i ≡ Some t → i < number)
+      → IsNamed s.present (sources_of P ++ x) t (look p kept t)
   named t earlier = by (is_listed p.record.tiles t) refl
     where
-      by : (b : Bool) → is_listed p.record.tiles t ≡ b → IsNamed s.present (sources_of P ++ x) t (if b then Some p.record.version else look_before p kept t)
-      by true e = let k = place_of p.record.tiles t (listed_contains p.record.tiles t e) in own_there t k.0 k.1 (earlier k.0 k.1)
-      by false e = untouched_too t (look_before p kept t) (λ reached. true≢false (sym (contains_listed p.record.tiles t ((plans.touched.exact t).1 reached)) ∙ e)) (named_before t)
+      by : (b : Bool) → is_listed p.record.tiles t ≡ b
+          → IsNamed s.present (sources_of P ++ x) t (if b then Some p.record.version else look_before p kept t)
+      by true e = let k = place_of p.record.tiles t (listed_contains p.record.tiles t e) in
+          own_there t k.0 k.1 (earlier k.0 k.1)
+      by false e = untouched_too t (look_before p kept t)
+          (λ reached. true≢false (sym (contains_listed p.record.tiles t ((plans.touched.exact t).1 reached)) ∙ e))
+          (named_before t)
 
   pub sources_there : HasSources s.present p.record.version x
   sources_there k r at =
       ap (λ n. s.present (source_path n (k + 1))) plans.version
-      ∙ keeps.there k (length x + number) s (record { path = source_path (length P + 1) (k + 1); bytes = source_text r }) mid
+      ∙ keeps.there k (length x + number) s
+      (record { path = source_path (length P + 1) (k + 1); bytes = source_text r }) mid
       (source_at P x p.record.tiles k r at) (omega (arith, in_range x k r at))
 
 -- ---- elevations of the same cells
@@ -145,7 +160,8 @@ same_place : (f : Family) (h : ℕ) (c : Place) → (f ≡ Low) ⊎ (f ≡ High)
 same_place f h c (inl e) = subst (λ (g : Family). place_in g h c ≡ place_in Elev h c) (sym e) refl
 same_place f h c (inr e) = subst (λ (g : Family). place_in g h c ≡ place_in Elev h c) (sym e) refl
 
-pub elevation_reached : (heads : List SourceHead) (t : Tile) → IsExtreme t.family → Reached heads t → Reached heads (elevation_tile t)
+pub elevation_reached : (heads : List SourceHead) (t : Tile) → IsExtreme t.family → Reached heads t
+    → Reached heads (elevation_tile t)
 elevation_reached heads t extreme r =
     let h = source_height r.head in
     record {
@@ -157,7 +173,8 @@ elevation_reached heads t extreme r =
         level = r.reaches.level;
         corner = r.reaches.corner;
         on_grid = r.reaches.on_grid;
-        in_tile = subst (λ q. IsInTile (elevation_tile t) q) (same_place t.family h r.reaches.corner extreme) (in_same r.reaches.in_tile);
+        in_tile = subst (λ q. IsInTile (elevation_tile t) q) (same_place t.family h r.reaches.corner extreme)
+            (in_same r.reaches.in_tile);
         in_box = subst (λ q. IsInBox r.head q) (same_place t.family h r.reaches.corner extreme) r.reaches.in_box;
       };
     }
@@ -167,20 +184,30 @@ elevation_reached heads t extreme r =
 
 -- ---- all together
 
-pub mid_has_files : (bytes : BytesByReaching) (p : Plan) (kept : List Record) (P : List (List Source)) (x : List Source) (number : ℕ) (s : State) (t : Tile) (children : List Tile)
-    → Plans p P x → AreRecords kept P → IsImage s s.present → IsMidAfter P x p.record.tiles (length x + number) s → slice_get p.record.tiles number ≡ Some t → AreChildren t children
+pub mid_has_files : (bytes : BytesByReaching) (p : Plan) (kept : List Record) (P : List (List Source)) (x : List Source)
+    (number : ℕ) (s : State) (t : Tile) (children : List Tile)
+    → Plans p P x → AreRecords kept P → IsImage s s.present → IsMidAfter P x p.record.tiles (length x + number) s
+    → slice_get p.record.tiles number ≡ Some t → AreChildren t children
     → HasFilesFor p kept s.present (sources_of P) x t children
 mid_has_files bytes p kept P x number s t children plans are here mid at those = record {
   heads = plans.heads;
   children_named = λ k d l. named bytes p kept P x number s plans are here mid (get_or children k d)
-      (λ i there. precedes p.record.tiles i number (get_or children k d) t plans.touched.ordered there at (child_before (get_or children k d) t (parents t children those k d l)));
+      (λ i there. precedes p.record.tiles i number (get_or children k d) t plans.touched.ordered there at
+      (child_before (get_or children k d) t (parents t children those k d l)));
   sources = sources_there bytes p kept P x number s plans are here mid;
   older = named_before bytes p kept P x number s plans are here mid t;
   elevation = λ extreme.
-      let reached : Reached (heads_of x) t = (plans.touched.exact t).0 (number, in_range p.record.tiles number t at, get_or_from_slice_get p.record.tiles number t t at) in
-      let e = place_of p.record.tiles (elevation_tile t) ((plans.touched.exact (elevation_tile t)).1 (elevation_reached (heads_of x) t extreme reached)) in
+      let reached : Reached (heads_of x) t =
+      (plans.touched.exact t).0 (
+        number,
+        in_range p.record.tiles number t at,
+        get_or_from_slice_get p.record.tiles number t t at,
+      ) in
+      let e = place_of p.record.tiles (elevation_tile t)
+      ((plans.touched.exact (elevation_tile t)).1 (elevation_reached (heads_of x) t extreme reached)) in
       own_there bytes p kept P x number s plans are here mid (elevation_tile t) e.0 e.1
-      (precedes p.record.tiles e.0 number (elevation_tile t) t plans.touched.ordered e.1 at (elevation_first (elevation_tile t) t refl extreme));
+      (precedes p.record.tiles e.0 number (elevation_tile t) t plans.touched.ordered e.1 at
+      (elevation_first (elevation_tile t) t refl extreme));
 }
 
 pub all_sources : (P : List (List Source)) (x : List Source) → sources_of (P ++ x ∷ []) ≡ sources_of P ++ x

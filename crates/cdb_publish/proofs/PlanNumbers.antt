@@ -16,26 +16,33 @@ use Rattle.cdb_publish.specs.Fitting.{Plans}
 use Rattle.cdb_publish.specs.declared.plan.Plan.{Plan}
 
 module _ (p : Plan) (P : List (List Source)) (x : List Source) (plans : Plans p P x) where
-  pub plan_source : (i : ℕ) (s : Source) (q : Text) (bytes : List ℕ) → slice_get x i ≡ Some s → q ≡ source_path p.record.version (i + 1) → bytes ≡ source_text s
+  pub plan_source : (i : ℕ) (s : Source) (q : Text) (bytes : List ℕ) → slice_get x i ≡ Some s
+      → q ≡ source_path p.record.version (i + 1) → bytes ≡ source_text s
       → slice_get (steps_of P x p.record.tiles) i ≡ Some (FileAction.write (record { path = q; bytes = bytes }))
   plan_source i s q bytes at path_is bytes_is =
       let a = path_is ∙ ap (λ v. source_path v (i + 1)) plans.version in
-      source_at P x p.record.tiles i s at ∙ sym (λ k. Some (FileAction.write (record { path = a k; bytes = bytes_is k })))
+      source_at P x p.record.tiles i s at
+      ∙ sym (λ k. Some (FileAction.write (record { path = a k; bytes = bytes_is k })))
 
-  pub plan_tile : (i : ℕ) (t : Tile) (q : Text) (bytes : List ℕ) → slice_get p.record.tiles i ≡ Some t → q ≡ path p.record.version t → bytes ≡ tile_bytes (sources_of (P ++ x ∷ [])) t
-      → slice_get (steps_of P x p.record.tiles) (length x + i) ≡ Some (FileAction.write (record { path = q; bytes = bytes }))
+  pub plan_tile : (i : ℕ) (t : Tile) (q : Text) (bytes : List ℕ) → slice_get p.record.tiles i ≡ Some t
+      → q ≡ path p.record.version t → bytes ≡ tile_bytes (sources_of (P ++ x ∷ [])) t
+      → slice_get (steps_of P x p.record.tiles) (length x + i)
+      ≡ Some (FileAction.write (record { path = q; bytes = bytes }))
   plan_tile i t q bytes at path_is bytes_is =
       let a = path_is ∙ ap (λ v. path v t) plans.version in
-      tile_at P x p.record.tiles i (length x + i) t refl at ∙ sym (λ k. Some (FileAction.write (record { path = a k; bytes = bytes_is k })))
+      tile_at P x p.record.tiles i (length x + i) t refl at
+      ∙ sym (λ k. Some (FileAction.write (record { path = a k; bytes = bytes_is k })))
 
   pub plan_folder : (i : ℕ) (folder : ArrayString) → slice_get p.folders.keys i ≡ Some folder
-      → slice_get (steps_of P x p.record.tiles) (length x + length p.record.tiles + i) ≡ Some (FileAction.sync folder.bytes)
+      → slice_get (steps_of P x p.record.tiles) (length x + length p.record.tiles + i)
+      ≡ Some (FileAction.sync folder.bytes)
   plan_folder i folder at = folder_at P x p.record.tiles i (length x + length p.record.tiles + i) folder.bytes refl
       (let F : List Text → Type 0 = λ fs. slice_get fs i ≡ Some folder.bytes in
       subst F plans.folders (get-map (λ f. f.bytes) p.folders.keys i folder at))
 
   pub plan_record : (q : Text) (bytes : List ℕ) → q ≡ record_path p.record.version → bytes ≡ p.bytes.items
-      → slice_get (steps_of P x p.record.tiles) (length x + length p.record.tiles + length p.folders.keys) ≡ Some (FileAction.write_and_sync (record { path = q; bytes = bytes }))
+      → slice_get (steps_of P x p.record.tiles) (length x + length p.record.tiles + length p.folders.keys)
+      ≡ Some (FileAction.write_and_sync (record { path = q; bytes = bytes }))
   plan_record q bytes path_is bytes_is =
       let a = path_is ∙ ap record_path plans.version in
       let b = bytes_is ∙ plans.bytes in

@@ -22,11 +22,13 @@ use Rattle.cdb_crash.proofs.NewestFiles.{some_is}
 abbrev need_of : ℕ → ℕ → SourceHead → Need
 need_of version number head = record { path = source_path version number; size = source_size head }
 
-one_counted : {A B : Type 0} (need : A) (head : B) (rest : List B) (b : Bool) → length rest + length (if b then need ∷ [] else []) ≡ length (if b then head ∷ rest else rest)
+one_counted : {A B : Type 0} (need : A) (head : B) (rest : List B) (b : Bool)
+    → length rest + length (if b then need ∷ [] else []) ≡ length (if b then head ∷ rest else rest)
 one_counted need head rest true = omega arith
 one_counted need head rest false = omega arith
 
-counted : (version number : ℕ) (heads : List SourceHead) (t : Tile) → length (window_needs version number heads t) ≡ rows_taken heads t
+counted : (version number : ℕ) (heads : List SourceHead) (t : Tile)
+    → length (window_needs version number heads t) ≡ rows_taken heads t
 counted version number [] t = refl
 counted version number (head ∷ heads) t =
     length-append (window_needs version (number + 1) heads t) (window_need version number head t)
@@ -44,11 +46,13 @@ few_files p kept t children are = by t.family
     by High = omega (arith, few_extreme p kept t children are)
     by Mat = omega (arith, few_own p kept t children are, counted p.record.version 1 p.record.heads t)
 
-more : (heads : List SourceHead) (t : Tile) (tiles : List Tile) → most_reads heads (t ∷ tiles) ≡ 6 + painted_from t.family heads t + most_reads heads tiles
+more : (heads : List SourceHead) (t : Tile) (tiles : List Tile)
+    → most_reads heads (t ∷ tiles) ≡ 6 + painted_from t.family heads t + most_reads heads tiles
 more heads t tiles = let l : length (t ∷ tiles) ≡ length tiles + 1 = omega arith in
     omega (arith, l, sum_by-cons (λ (u : Tile). painted_from u.family heads u) t tiles)
 
-behind : (tiles : List Tile) (i n : ℕ) (t : Tile) → n ≡ i + 1 → slice_get tiles i ≡ Some t → drop i tiles ≡ t ∷ drop n tiles
+behind : (tiles : List Tile) (i n : ℕ) (t : Tile) → n ≡ i + 1 → slice_get tiles i ≡ Some t
+    → drop i tiles ≡ t ∷ drop n tiles
 behind [] i n t is at = absurd cc
 behind (u ∷ tiles) zero zero t is at = absurd (omega (arith, is))
 behind (u ∷ tiles) zero (suc zero) t is at = ap (λ v. v ∷ tiles) (some_is u t at)
@@ -56,8 +60,10 @@ behind (u ∷ tiles) zero (suc (suc n)) t is at = absurd (omega (arith, is))
 behind (u ∷ tiles) (suc i) zero t is at = absurd (omega (arith, is))
 behind (u ∷ tiles) (suc i) (suc n) t is at = behind tiles i n t (omega (arith, is)) at
 
-fewer : (heads : List SourceHead) (tiles : List Tile) (i n : ℕ) → (n ≡ i) ⊎ (n ≡ i + 1) → most_reads heads (drop n tiles) ≤ most_reads heads (drop i tiles)
-fewer heads tiles i n (inl is) = let K : ℕ → Type 0 = λ k. most_reads heads (drop k tiles) ≤ most_reads heads (drop i tiles) in subst K (sym is) (omega arith)
+fewer : (heads : List SourceHead) (tiles : List Tile) (i n : ℕ) → (n ≡ i) ⊎ (n ≡ i + 1)
+    → most_reads heads (drop n tiles) ≤ most_reads heads (drop i tiles)
+fewer heads tiles i n (inl is) = let K : ℕ
+    → Type 0 = λ k. most_reads heads (drop k tiles) ≤ most_reads heads (drop i tiles) in subst K (sym is) (omega arith)
 fewer heads [] zero zero (inr is) = omega arith
 fewer heads [] zero (suc n) (inr is) = omega arith
 fewer heads [] (suc i) zero (inr is) = omega arith
@@ -75,10 +81,17 @@ apart done h = elim (cases_lt done h) [
 ]
 
 -- What the step of this number reads is no more than what is left for it and not for those behind it.
-pub reads_fall : (p : Plan) (kept : List Record) (done : ℕ) (F : List Need → Type 0) (before after : ℕ) → StepNeeds p kept done (λ needs. F needs × (after ≤ before + length needs))
-    → after + most_reads p.record.heads (drop (done + 1 - length p.record.heads) p.record.tiles) ≤ before + most_reads p.record.heads (drop (done - length p.record.heads) p.record.tiles)
+pub reads_fall : (p : Plan) (kept : List Record) (done : ℕ) (F : List Need → Type 0) (before after : ℕ)
+    → StepNeeds p kept done (λ needs. F needs × (after ≤ before + length needs))
+    → after + most_reads p.record.heads (drop (done + 1 - length p.record.heads) p.record.tiles) ≤ before + most_reads
+    p.record.heads (drop (done - length p.record.heads) p.record.tiles)
 reads_fall p kept done F before after (StepNeeds.none never fact) =
-    omega (arith, fact.1, fewer p.record.heads p.record.tiles (done - length p.record.heads) (done + 1 - length p.record.heads) (apart done (length p.record.heads)))
+    omega (
+      arith,
+      fact.1,
+      fewer p.record.heads p.record.tiles (done - length p.record.heads)
+          (done + 1 - length p.record.heads) (apart done (length p.record.heads)),
+    )
 reads_fall p kept done F before after (StepNeeds.of_tile i t is at needs) =
     let heads = p.record.heads in let tiles = p.record.tiles in
     let here : done - length p.record.heads ≡ i = omega (arith, is) in
@@ -95,6 +108,7 @@ reads_fall p kept done F before after (StepNeeds.of_tile i t is at needs) =
     )
 
 -- And no more than what is left.
-pub reads_within : (p : Plan) (kept : List Record) (done : ℕ) (F : List Need → Type 0) (before after : ℕ) → StepNeeds p kept done (λ needs. F needs × (after ≤ before + length needs))
+pub reads_within : (p : Plan) (kept : List Record) (done : ℕ) (F : List Need → Type 0) (before after : ℕ)
+    → StepNeeds p kept done (λ needs. F needs × (after ≤ before + length needs))
     → after ≤ before + most_reads p.record.heads (drop (done - length p.record.heads) p.record.tiles)
 reads_within p kept done F before after needs = omega (arith, reads_fall p kept done F before after needs)

@@ -17,7 +17,8 @@ same_window head t a b c d v w =
     let s = w.all (a + b - 1) v.last_looked in
     omega (arith, p.0, q.0, r.1, s.1, v.some, w.some)
 
-pub window_room : (head : SourceHead) (t : Tile) (first count n : ℕ) → IsWindow head t first count → n ≡ count * head.cols → HasRoomFor head t n
+pub window_room : (head : SourceHead) (t : Tile) (first count n : ℕ) → IsWindow head t first count
+    → n ≡ count * head.cols → HasRoomFor head t n
 window_room head t first count n w is level f c v =
     let K : ℕ → Type 0 = λ k. k * head.cols ≤ n in
     subst K (same_window head t first count f c w v) (omega (arith, is))
@@ -36,14 +37,16 @@ all_wider heads t a b le room k head at = wider head t a b le (room k head at)
 
 -- Room for each of the first heads.
 abbrev pub HasRoomUpTo : List SourceHead → Tile → ℕ → ℕ → Type 0
-HasRoomUpTo heads t n room = (k : ℕ) (head : SourceHead) → k < n → slice_get heads k ≡ Some head → HasRoomFor head t room
+HasRoomUpTo heads t n room = (k : ℕ) (head : SourceHead) → k < n → slice_get heads k ≡ Some head
+    → HasRoomFor head t room
 
 -- And for each of the first tiles.
 abbrev pub HasRoomToTile : List SourceHead → List Tile → ℕ → ℕ → Type 0
 HasRoomToTile heads tiles n room = (i : ℕ) (t : Tile) → i < n → slice_get tiles i ≡ Some t → HasRoom heads t room
 
 -- One head more, or one tile.
-pub one_head : (heads : List SourceHead) (t : Tile) (n room size next : ℕ) (head : SourceHead) → slice_get heads n ≡ Some head → room ≤ next → size ≤ next → HasRoomFor head t size
+pub one_head : (heads : List SourceHead) (t : Tile) (n room size next : ℕ) (head : SourceHead)
+    → slice_get heads n ≡ Some head → room ≤ next → size ≤ next → HasRoomFor head t size
     → HasRoomUpTo heads t n room → HasRoomUpTo heads t (n + 1) next
 one_head heads t n room size next head at le more one before k other less there = elim (cases_lt k n) [
   | inl l ↦ wider other t room next le (before k other l there)
@@ -53,7 +56,8 @@ one_head heads t n room size next head at le more one before k other less there 
       subst H (some_is head other (sym at ∙ subst S same there)) (wider head t size next more one)
 ]
 
-pub one_tile : (heads : List SourceHead) (tiles : List Tile) (n room size next : ℕ) (t : Tile) → slice_get tiles n ≡ Some t → room ≤ next → size ≤ next → HasRoom heads t size
+pub one_tile : (heads : List SourceHead) (tiles : List Tile) (n room size next : ℕ) (t : Tile)
+    → slice_get tiles n ≡ Some t → room ≤ next → size ≤ next → HasRoom heads t size
     → HasRoomToTile heads tiles n room → HasRoomToTile heads tiles (n + 1) next
 one_tile heads tiles n room size next t at le more one before i other less there = elim (cases_lt i n) [
   | inl l ↦ all_wider heads other room next le (before i other l there)
@@ -63,8 +67,10 @@ one_tile heads tiles n room size next t at le more one before i other less there
       subst T (some_is t other (sym at ∙ subst S same there)) (all_wider heads t size next more one)
 ]
 
-pub all_heads : (heads : List SourceHead) (t : Tile) (n room : ℕ) → length heads ≤ n → HasRoomUpTo heads t n room → HasRoom heads t room
+pub all_heads : (heads : List SourceHead) (t : Tile) (n room : ℕ) → length heads ≤ n → HasRoomUpTo heads t n room
+    → HasRoom heads t room
 all_heads heads t n room most up k head at = up k head (omega (arith, most, in_range heads k head at)) at
 
-pub all_tiles : (heads : List SourceHead) (tiles : List Tile) (n room : ℕ) → length tiles ≤ n → HasRoomToTile heads tiles n room → (i : ℕ) (t : Tile) → slice_get tiles i ≡ Some t → HasRoom heads t room
+pub all_tiles : (heads : List SourceHead) (tiles : List Tile) (n room : ℕ) → length tiles ≤ n
+    → HasRoomToTile heads tiles n room → (i : ℕ) (t : Tile) → slice_get tiles i ≡ Some t → HasRoom heads t room
 all_tiles heads tiles n room most up i t at = up i t (omega (arith, most, in_range tiles i t at)) at

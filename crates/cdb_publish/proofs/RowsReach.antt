@@ -30,7 +30,8 @@ place_from : (head : SourceHead) (t : Tile) → has_place head t ≡ true → Ha
 unfolding has_place
 place_from head t h =
     let n : ℕ = tile_side t in
-    let a = Any-from_list_any (λ row. list_any (λ col. is_in_box head (element_place t row col)) (range_with_len 0 (tile_side t))) (range_with_len 0 (tile_side t)) h in
+    let a = Any-from_list_any (λ row. list_any (λ col. is_in_box head (element_place t row col))
+    (range_with_len 0 (tile_side t))) (range_with_len 0 (tile_side t)) h in
     let b = Any-from_list_any (λ col. is_in_box head (element_place t a.1 col)) (range_with_len 0 (tile_side t)) a.4 in
     let row_in : a.0 < tile_side t = omega (arith, length-range_with_len 0 (tile_side t), a.2) in
     let col_in : b.0 < tile_side t = omega (arith, length-range_with_len 0 (tile_side t), b.2) in

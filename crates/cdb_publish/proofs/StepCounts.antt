@@ -19,17 +19,23 @@ same_once : (xs : List Text) → each_once xs ≡ publications.each_once xs
 same_once [] = refl
 same_once (folder ∷ xs) = ap (λ rest. folder ∷ filter (λ other. not (bytes_eq other folder)) rest) (same_once xs)
 
-of_sources : (v from : ℕ) (x : List Source) → map (λ (file : File). folder_above file.path) (source_files v from x) ≡ map folder_above (source_paths v from x)
+of_sources : (v from : ℕ) (x : List Source)
+    → map (λ (file : File). folder_above file.path) (source_files v from x) ≡ map folder_above (source_paths v from x)
 of_sources v from [] = refl
 of_sources v from (s ∷ x) = ap (λ rest. folder_above (source_path v from) ∷ rest) (of_sources v (from + 1) x)
 
-of_tiles : (v : ℕ) (all : List Source) (tiles : List Tile) → map (λ (file : File). folder_above file.path) (map (tile_file v all) tiles) ≡ map folder_above (map (path v) tiles)
+of_tiles : (v : ℕ) (all : List Source) (tiles : List Tile)
+    → map (λ (file : File). folder_above file.path) (map (tile_file v all) tiles)
+    ≡ map folder_above (map (path v) tiles)
 of_tiles v all [] = refl
 of_tiles v all (t ∷ tiles) = ap (λ rest. folder_above (path v t) ∷ rest) (of_tiles v all tiles)
 
-same_folders : (P : List (List Source)) (x : List Source) (tiles : List Tile) → folders_of (files_of P x tiles) ≡ folders_above (file_paths P x tiles)
+same_folders : (P : List (List Source)) (x : List Source) (tiles : List Tile)
+    → folders_of (files_of P x tiles) ≡ folders_above (file_paths P x tiles)
 same_folders P x tiles =
-    ap each_once (map-append (λ (file : File). folder_above file.path) (source_files (length P + 1) 1 x) (map (tile_file (length P + 1) (sources_of (P ++ x ∷ []))) tiles)
+    ap each_once
+    (map-append (λ (file : File). folder_above file.path) (source_files (length P + 1) 1 x)
+    (map (tile_file (length P + 1) (sources_of (P ++ x ∷ []))) tiles)
     ∙ (λ i. of_sources (length P + 1) 1 x i ++ of_tiles (length P + 1) (sources_of (P ++ x ∷ [])) tiles i)
     ∙ sym (map-append folder_above (source_paths (length P + 1) 1 x) (map (path (length P + 1)) tiles)))
     ∙ same_once (map folder_above (file_paths P x tiles))

@@ -60,24 +60,30 @@ drop_tail (y ∷ x) zero (suc zero) is = refl
 drop_tail (y ∷ x) zero (suc (suc m)) is = absurd (omega (arith, is))
 drop_tail (y ∷ x) (suc n) (suc m) is = drop_tail x n m (omega (arith, is))
 
-last_apart : {A : Type 0} (ss : List A) (i : ℕ) (s : A) → i + 1 ≡ length ss → slice_get ss i ≡ Some s → (front : List A) × (ss ≡ front ++ s ∷ [])
+last_apart : {A : Type 0} (ss : List A) (i : ℕ) (s : A) → i + 1 ≡ length ss → slice_get ss i ≡ Some s
+    → (front : List A) × (ss ≡ front ++ s ∷ [])
 last_apart [] i s is e = none_some s e
 last_apart (y ∷ []) zero s is e = ([], ap (λ z. z ∷ []) (some_is y s e))
 last_apart (y ∷ z ∷ ss) zero s is e = absurd (omega (arith, is))
 last_apart (y ∷ ss) (suc i) s is e = let l = last_apart ss i s (omega (arith, is)) e in (y ∷ l.0, ap (λ t. y ∷ t) l.1)
 
 -- The source whose turn it is, of those that are left, the last one first.
-pub next_source : (ss x : List Source) (n i : ℕ) (s : Source) → reverse ss ≡ drop n x → i + 1 ≡ length ss → s ≡ get_or ss i s → slice_get x n ≡ Some s
+pub next_source : (ss x : List Source) (n i : ℕ) (s : Source) → reverse ss ≡ drop n x → i + 1 ≡ length ss
+    → s ≡ get_or ss i s → slice_get x n ≡ Some s
 next_source ss x n i s rev is at =
     let l = last_apart ss i s is (got ss i s (omega (arith, is)) at) in
     drop_head x n s (reverse l.0) (sym (reverse-append l.0 (s ∷ [])) ∙ sym (ap reverse l.1) ∙ rev)
 
 -- Those that are left behind it.
-pub rest_sources : (before after x : List Source) (taken : Option Source) (n len : ℕ) → len ≡ length before → before ≡ after ++ option_to_list taken
-    → ((d : Source) → 0 < len → taken ≡ Some (get_or before (len - 1) d)) → reverse before ≡ drop n x → reverse after ≡ drop (n + 1) x
-rest_sources before after x None n len is parts value rev = empty before after is parts value ∙ ap (drop 1) rev ∙ sym (drop_tail x n (n + 1) refl)
+pub rest_sources : (before after x : List Source) (taken : Option Source) (n len : ℕ) → len ≡ length before
+    → before ≡ after ++ option_to_list taken
+    → ((d : Source) → 0 < len → taken ≡ Some (get_or before (len - 1) d)) → reverse before ≡ drop n x
+    → reverse after ≡ drop (n + 1) x
+rest_sources before after x None n len is parts value rev = empty before after is parts value ∙ ap (drop 1) rev
+    ∙ sym (drop_tail x n (n + 1) refl)
   where
-    empty : (before after : List Source) → len ≡ length before → before ≡ after ++ [] → ((d : Source) → 0 < len → None ≡ Some (get_or before (len - 1) d)) → reverse after ≡ drop 1 (reverse before)
+    empty : (before after : List Source) → len ≡ length before → before ≡ after ++ []
+        → ((d : Source) → 0 < len → None ≡ Some (get_or before (len - 1) d)) → reverse after ≡ drop 1 (reverse before)
     empty (s ∷ before) after l e v = none_some _ (v s (omega (arith, l)))
     empty [] [] l e v = refl
     empty [] (s ∷ after) l e v = absurd (omega (arith, ap length e))
@@ -85,31 +91,37 @@ rest_sources before after x (Some s) n len is parts value rev =
     ap (drop 1) (sym (reverse-append after (s ∷ [])) ∙ sym (ap reverse parts) ∙ rev) ∙ sym (drop_tail x n (n + 1) refl)
 
 -- ---- plans
-pub keeps : (w : Work) (P : List (List Source)) (x : List Source) (n : ℕ) → Fits w P x n → PlanKeeps P x w.plan.record.tiles
+pub keeps : (w : Work) (P : List (List Source)) (x : List Source) (n : ℕ) → Fits w P x n
+    → PlanKeeps P x w.plan.record.tiles
 keeps w P x n fits = own.plan_steps P x w.plan.record.tiles fits.plan.list fits.plan.touched
 
-pub heads_counted : (p : Plan) (P : List (List Source)) (x : List Source) → Plans p P x → length p.record.heads ≡ length x
+pub heads_counted : (p : Plan) (P : List (List Source)) (x : List Source) → Plans p P x
+    → length p.record.heads ≡ length x
 heads_counted p P x plans = ap length plans.heads ∙ length-map x (λ s. s.head)
 
-pub steps_counted : (p : Plan) (P : List (List Source)) (x : List Source) → Plans p P x → length (steps_of P x p.record.tiles) ≡ steps_before_head p
+pub steps_counted : (p : Plan) (P : List (List Source)) (x : List Source) → Plans p P x
+    → length (steps_of P x p.record.tiles) ≡ steps_before_head p
 steps_counted p P x plans =
     let k : PlanKeeps P x p.record.tiles = own.plan_steps P x p.record.tiles plans.list plans.touched in
     omega (arith, k.count, heads_counted p P x plans, ap length plans.folders, length-map p.folders.keys (λ f. f.bytes))
 
 -- All steps but the head's are made.
-pub now_ready : (w : Work) (P : List (List Source)) (x : List Source) (n : ℕ) (s : State) → Fits w P x n → IsImage s s.present → IsMidAfter P x w.plan.record.tiles n s
+pub now_ready : (w : Work) (P : List (List Source)) (x : List Source) (n : ℕ) (s : State) → Fits w P x n
+    → IsImage s s.present → IsMidAfter P x w.plan.record.tiles n s
     → w.done ≡ steps_before_head w.plan → IsReadyForHead Stands HasNext P x s
 now_ready w P x n s fits here mid full =
     let M : ℕ → Type 0 = λ k. IsMidAfter P x w.plan.record.tiles k s in
     (keeps w P x n fits).ready s here (subst M (sym fits.done ∙ full ∙ sym (steps_counted w.plan P x fits.plan)) mid)
 
 -- ---- the work that a publication holds
-pub record Holds (w : Work) (P : List (List Source)) (x : List Source) (number : ℕ) (kept : List Record) (s : State) : Type 0 where
+pub record Holds (w : Work) (P : List (List Source)) (x : List Source) (number : ℕ) (kept : List Record)
+    (s : State) : Type 0 where
   pub fits : Fits w P x number
   pub records : AreRecords kept P
   pub mid : IsMidAfter P x w.plan.record.tiles number s
 
-pub opened : (q : Publication) (w : Work) (P : List (List Source)) (x : List Source) (number : ℕ) (kept : List Record) (s : State) → q.work ≡ Some w → Underway q P x number kept s
+pub opened : (q : Publication) (w : Work) (P : List (List Source)) (x : List Source) (number : ℕ) (kept : List Record)
+    (s : State) → q.work ≡ Some w → Underway q P x number kept s
     → Holds w P x number kept s
 opened q w P x number kept s is u = let H : Work → Type 0 = λ v. Holds v P x number kept s in
     subst H (some_is u.work w (sym u.is ∙ is)) (record { fits = u.fits; records = u.records; mid = u.mid })

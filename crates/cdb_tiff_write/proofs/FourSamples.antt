@@ -9,14 +9,28 @@ use Rattle.cdb_tiff_write.specs.inside.Finer.{four_samples}
 use Rattle.cdb_tiff_write.proofs.FrameIn.{frame_number}
 
 -- the numbers as the program passes them
-pub passed : (f : ℤ → ℤ → ℤ → ℤ → ℤ → ℤ) (r a b c d e p q s t u : ℤ) → SFits w16 a → SFits w16 b → SFits w16 c → SFits w16 d → SFits w16 e
-    → r ≡ f (to_z w16 (of_z w16 a)) (to_z w16 (of_z w16 b)) (to_z w16 (of_z w16 c)) (to_z w16 (of_z w16 d)) (to_z w16 (of_z w16 e))
+pub passed : (f : ℤ → ℤ → ℤ → ℤ → ℤ → ℤ) (r a b c d e p q s t u : ℤ) → SFits w16 a → SFits w16 b → SFits w16 c
+    → SFits w16 d → SFits w16 e
+    → r ≡ f (to_z w16 (of_z w16 a)) (to_z w16 (of_z w16 b)) (to_z w16 (of_z w16 c)) (to_z w16 (of_z w16 d))
+    (to_z w16 (of_z w16 e))
     → a ≡ p → b ≡ q → c ≡ s → d ≡ t → e ≡ u → r ≡ f p q s t u
 passed f r a b c d e p q s t u fa fb fc fd fe is ea eb ec ed ee =
-    is ∙ rw (to_z-of_z w16 a fa, to_z-of_z w16 b fb, to_z-of_z w16 c fc, to_z-of_z w16 d fd, to_z-of_z w16 e fe, ea, eb, ec, ed, ee) refl
+    is ∙ rw (
+      to_z-of_z w16 a fa,
+      to_z-of_z w16 b fb,
+      to_z-of_z w16 c fc,
+      to_z-of_z w16 d fd,
+      to_z-of_z w16 e fe,
+      ea,
+      eb,
+      ec,
+      ed,
+      ee,
+    ) refl
 
 -- a row is changed by each rule that has the same numbers there
-row_same : (f g : ℕ → ℤ → ℤ) (n : ℕ) (old new : List ℤ) → IsRowChanged f n old new → ((k : ℕ) (own : ℤ) → k < n → f k own ≡ g k own) → IsRowChanged g n old new
+row_same : (f g : ℕ → ℤ → ℤ) (n : ℕ) (old new : List ℤ) → IsRowChanged f n old new
+    → ((k : ℕ) (own : ℤ) → k < n → f k own ≡ g k own) → IsRowChanged g n old new
 row_same f g n old new is same = record {
   size = is.size;
   changed = λ k lt within. is.changed k lt within ∙ same k (number_in old k) lt;
@@ -24,20 +38,25 @@ row_same f g n old new is same = record {
 }
 
 -- the rows of a file under a row of a coarser tile are the same rows of its frame
-pub row_under : (f : ℤ → ℤ → ℤ → ℤ → ℤ → ℤ) (bits used : ℕ) (bytes : List ℕ) (side row n : ℕ) (old new : List ℤ) → bits ≡ used → 2 * row + 2 ≤ side → 2 * n ≤ side
+pub row_under : (f : ℤ → ℤ → ℤ → ℤ → ℤ → ℤ) (bits used : ℕ) (bytes : List ℕ) (side row n : ℕ) (old new : List ℤ)
+    → bits ≡ used → 2 * row + 2 ≤ side → 2 * n ≤ side
     → IsRowChanged (four_samples f used bytes ((side - 1 - 2 * row) * side) ((side - 2 - 2 * row) * side)) n old new
     → IsRowChanged (four_under f (frame_in bits bytes side) side row) n old new
 row_under f bits used bytes side row n old new e high wide is =
     subst (λ b. IsRowChanged (four_under f (frame_in b bytes side) side row) n old new) (sym e)
-    (row_same (four_samples f used bytes ((side - 1 - 2 * row) * side) ((side - 2 - 2 * row) * side)) (four_under f (frame_in used bytes side) side row) n old new is (λ k own lt.
+    (row_same (four_samples f used bytes ((side - 1 - 2 * row) * side) ((side - 2 - 2 * row) * side))
+    (four_under f (frame_in used bytes side) side row) n old new is (λ k own lt.
     four_same f own _ _ _ _ _ _ _ _
     (at (2 * row) (side - 1 - 2 * row) _ (2 * k) (omega arith) refl (omega arith) refl)
     (at (2 * row) (side - 1 - 2 * row) _ (2 * k + 1) (omega arith) refl (omega arith) (omega arith))
     (at (2 * row + 1) (side - 2 - 2 * row) _ (2 * k) (omega arith) (omega arith) (omega arith) refl)
     (at (2 * row + 1) (side - 2 - 2 * row) _ (2 * k + 1) (omega arith) (omega arith) (omega arith) (omega arith))))
   where
-    at : (r north i j : ℕ) → r < side → north ≡ side - 1 - r → j < side → i ≡ north * side + j → sample_in used bytes i ≡ number_at (frame_in used bytes side) side r j
-    at r north i j below en right ei = ap (sample_in used bytes) (ei ∙ ap (λ m. m * side + j) en) ∙ sym (frame_number used bytes side r j below right)
+    at : (r north i j : ℕ) → r < side → north ≡ side - 1 - r → j < side → i ≡ north * side + j
+        → sample_in used bytes i ≡ number_at (frame_in used bytes side) side r j
+    at r north i j below en right ei = ap (sample_in used bytes) (ei ∙ ap (λ m. m * side + j) en)
+        ∙ sym (frame_number used bytes side r j below right)
 
-    four_same : (h : ℤ → ℤ → ℤ → ℤ → ℤ → ℤ) (own a b c d p q s t : ℤ) → a ≡ p → b ≡ q → c ≡ s → d ≡ t → h own a b c d ≡ h own p q s t
+    four_same : (h : ℤ → ℤ → ℤ → ℤ → ℤ → ℤ) (own a b c d p q s t : ℤ) → a ≡ p → b ≡ q → c ≡ s → d ≡ t
+        → h own a b c d ≡ h own p q s t
     four_same h own a b c d p q s t ea eb ec ed = ap₂ (λ x y. h own x y c d) ea eb ∙ ap₂ (λ x y. h own p q x y) ec ed

@@ -23,7 +23,8 @@ module _ (bits : ℕ) (bytes : List ℕ) (side : ℕ) where
   pub frame_long : length (frame_in bits bytes side) ≡ side * side
   frame_long = rows_length file_row side side row_long
 
-  pub frame_number : (row col : ℕ) → row < side → col < side → number_at (frame_in bits bytes side) side row col ≡ sample_in bits bytes ((side - 1 - row) * side + col)
+  pub frame_number : (row col : ℕ) → row < side → col < side
+      → number_at (frame_in bits bytes side) side row col ≡ sample_in bits bytes ((side - 1 - row) * side + col)
   frame_number row col a b =
       let north : ℕ = side - 1 - row in
       let back : row ≡ side - 1 - north = omega arith in
@@ -32,15 +33,19 @@ module _ (bits : ℕ) (bytes : List ℕ) (side : ℕ) where
       ∙ get_or-map-range_with_len (λ c. sample_in bits bytes (north * side + c)) 0 side col col (pos 0) b (omega arith)
 
 -- the frame in the file of a tile has the numbers of the tile
-pub frame_of_file : (ss : List Source) (t : Tile) → IsFrameOf ss t (frame_in (bits_of t.family) (tile_bytes ss t) (tile_side t))
+pub frame_of_file : (ss : List Source) (t : Tile)
+    → IsFrameOf ss t (frame_in (bits_of t.family) (tile_bytes ss t) (tile_side t))
 frame_of_file ss t = record {
   size = frame_long (bits_of t.family) (tile_bytes ss t) (tile_side t);
-  each = λ row col a b. frame_number (bits_of t.family) (tile_bytes ss t) (tile_side t) row col a b ∙ tile_samples ss t row col a b;
+  each = λ row col a b. frame_number (bits_of t.family) (tile_bytes ss t) (tile_side t) row col a b
+      ∙ tile_samples ss t row col a b;
 }
 
 -- the same by what the program knows of the file
-pub frame_read_in : (ss : List Source) (t : Tile) (bytes : List ℕ) (side bits : ℕ) → side ≡ tile_side t → bits ≡ bits_of t.family → bytes ≡ tile_bytes ss t
+pub frame_read_in : (ss : List Source) (t : Tile) (bytes : List ℕ) (side bits : ℕ) → side ≡ tile_side t
+    → bits ≡ bits_of t.family → bytes ≡ tile_bytes ss t
     → IsFrameOf ss t (frame_in bits bytes side)
 frame_read_in ss t bytes side bits es eb e =
-    subst (λ n. IsFrameOf ss t (frame_in bits bytes n)) (sym es) (subst (λ b. IsFrameOf ss t (frame_in b bytes (tile_side t))) (sym eb)
+    subst (λ n. IsFrameOf ss t (frame_in bits bytes n)) (sym es)
+    (subst (λ b. IsFrameOf ss t (frame_in b bytes (tile_side t))) (sym eb)
     (subst (λ l. IsFrameOf ss t (frame_in (bits_of t.family) l (tile_side t))) (sym e) (frame_of_file ss t)))

@@ -18,9 +18,13 @@ use Rattle.cdb_source.specs.declared.source.Source.{Source}
 use Rattle.cdb_cut.proofs.Plain.{Each, family_has}
 
 -- a post that is there and isn't none
-got : (kind : Kind) (posts : List ℤ) (i : ℕ) (o : Option ℤ) → All (IsPost kind) posts → slice_get posts i ≡ o → IfSome (option_and_then (value_of kind) o) (IsPost kind)
+got : (kind : Kind) (posts : List ℤ) (i : ℕ) (o : Option ℤ) → All (IsPost kind) posts → slice_get posts i ≡ o
+    → IfSome (option_and_then (value_of kind) o) (IsPost kind)
 got kind posts i None all e = tt
-got kind posts i (Some v) all e = by (int_eq v (none_of kind)) (subst (IsPost kind) (get_or_from_slice_get posts i v v e) (All-get_or (IsPost kind) posts i v (slice_get_within posts i v e) all))
+got kind posts i (Some v) all e =
+    by (int_eq v (none_of kind))
+    (subst (IsPost kind) (get_or_from_slice_get posts i v v e)
+    (All-get_or (IsPost kind) posts i v (slice_get_within posts i v e) all))
   where
     by : (b : Bool) → IsPost kind v → IfSome (cond b None (Some v)) (IsPost kind)
     by true p = tt
@@ -30,17 +34,21 @@ where_some : (Q : ℤ → Type 0) (b : Bool) (o : Option ℤ) → IfSome o Q →
 where_some Q true o p = p
 where_some Q false o p = tt
 
-value_post : (k : Kind) (s : Source) (p : Place) → s.head.kind ≡ k → k ≡ Material → IfSome (value_in k s p) (IsPost Material)
+value_post : (k : Kind) (s : Source) (p : Place) → s.head.kind ≡ k → k ≡ Material
+    → IfSome (value_in k s p) (IsPost Material)
 value_post Elevation s p e m = absurd (cc)
 value_post Material s p e m =
-    let row = (p.north - (corner_of s.head).north) / row_step s.head in let col = (p.east - (corner_of s.head).east) / column_step s.head in
+    let row = (p.north - (corner_of s.head).north) / row_step s.head in
+    let col = (p.east - (corner_of s.head).east) / column_step s.head in
     subst (λ (k : Kind). IfSome (post_at s row col) (IsPost k)) e
-    (where_some (IsPost s.head.kind) (nat_lt row s.head.rows && nat_lt col s.head.cols) (option_and_then (value_of s.head.kind) (slice_get s.posts (row * s.head.cols + col)))
+    (where_some (IsPost s.head.kind) (nat_lt row s.head.rows && nat_lt col s.head.cols)
+    (option_and_then (value_of s.head.kind) (slice_get s.posts (row * s.head.cols + col)))
     (got s.head.kind s.posts (row * s.head.cols + col) (slice_get s.posts (row * s.head.cols + col)) s.in_range refl))
 
 sample_post : (s : Source) → s.head.kind ≡ Material → (p : Place) → IfSome (sample_at s p) (IsPost Material)
 unfolding sample_at
-sample_post s e p = where_some (IsPost Material) (is_in_box s.head p) (value_in s.head.kind s p) (value_post s.head.kind s p refl e)
+sample_post s e p = where_some (IsPost Material) (is_in_box s.head p) (value_in s.head.kind s p)
+    (value_post s.head.kind s p refl e)
 
 all_posts : (ss : List Source) → Each (IsPost Material) Material (map sampled ss)
 all_posts [] = tt
@@ -51,7 +59,8 @@ coded_post None p = record { least = omega (arith, ints); greatest = omega (arit
 coded_post (Some v) p = p
 
 -- the number of an element of a tile of materials
-pub number_post : (f : Family) (ss : List Source) (h : ℕ) (c : Place) → f ≡ Mat → IsPost Material (coded (kind_of f) (family_value f ss h c))
+pub number_post : (f : Family) (ss : List Source) (h : ℕ) (c : Place) → f ≡ Mat
+    → IsPost Material (coded (kind_of f) (family_value f ss h c))
 number_post f ss h c e =
     subst (λ g. IsPost Material (coded (kind_of g) (family_value g ss h c))) (sym e)
     (coded_post (family_value Mat ss h c) (family_has (IsPost Material) Mat ss h c (all_posts ss)))

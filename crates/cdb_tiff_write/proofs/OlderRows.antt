@@ -18,19 +18,29 @@ module _ (t : Tile) (bytes : List ℕ) (old new : List ℤ) where
   abbrev Filled : Kind → ℕ → ℕ → Type 0
   Filled k b n = IsPartChanged (λ row col. or_sample k b bytes ((n - 1 - row) * n + col)) 0 0 n n n old new
 
-  filled : Filled (kind_of t.family) (bits_of t.family) (tile_side t) → IsFilled t (frame_in (bits_of t.family) bytes (tile_side t)) old new
+  filled : Filled (kind_of t.family) (bits_of t.family) (tile_side t)
+      → IsFilled t (frame_in (bits_of t.family) bytes (tile_side t)) old new
   filled all = record {
     size = all.size;
     each = λ row col a b.
         let n = tile_side t in let k : Kind = kind_of t.family in
         let zr : 0 + row ≡ row = omega arith in let zc : 0 + col ≡ col = omega arith in
-        subst (λ r. number_at new n r col ≡ coded k (option_or (value_of k (number_at old n r col)) (value_of k (number_at (frame_in (bits_of t.family) bytes n) n row col)))) zr
-        (subst (λ c. number_at new n (0 + row) c ≡ coded k (option_or (value_of k (number_at old n (0 + row) c)) (value_of k (number_at (frame_in (bits_of t.family) bytes n) n row col)))) zc
+        subst (λ r. number_at new n r col
+        ≡ coded k
+        (option_or (value_of k (number_at old n r col))
+        (value_of k (number_at (frame_in (bits_of t.family) bytes n) n row col)))) zr
+        (subst (λ c. number_at new n (0 + row) c
+        ≡ coded k
+        (option_or (value_of k (number_at old n (0 + row) c))
+        (value_of k (number_at (frame_in (bits_of t.family) bytes n) n row col)))) zc
         (all.changed row col a b
-        ∙ ap (λ v. coded k (option_or (value_of k (number_at old n (0 + row) (0 + col))) (value_of k v))) (sym (frame_number (bits_of t.family) bytes n row col a b))));
+        ∙ ap (λ v. coded k (option_or (value_of k (number_at old n (0 + row) (0 + col))) (value_of k v)))
+        (sym (frame_number (bits_of t.family) bytes n row col a b))));
   }
 
-  pub rows_filled : (kind : Kind) (bits side : ℕ) → kind ≡ kind_of t.family → bits ≡ bits_of t.family → side ≡ tile_side t
+  pub rows_filled : (kind : Kind) (bits side : ℕ) → kind ≡ kind_of t.family → bits ≡ bits_of t.family
+      → side ≡ tile_side t
       → Filled kind bits side → IsFilled t (frame_in (bits_of t.family) bytes (tile_side t)) old new
   rows_filled kind bits side ek eb es is =
-      filled (subst (λ n. Filled (kind_of t.family) (bits_of t.family) n) es (subst (λ b. Filled (kind_of t.family) b side) eb (subst (λ k. Filled k bits side) ek is)))
+      filled (subst (λ n. Filled (kind_of t.family) (bits_of t.family) n) es
+      (subst (λ b. Filled (kind_of t.family) b side) eb (subst (λ k. Filled k bits side) ek is)))

@@ -27,6 +27,7 @@ unfolding head_bytes
 head_of_one_element = refl
 
 -- the posts 500, -32768 and -2
-pub row_of_three_posts : row_bytes (pos 500 ∷ negsuc 32767 ∷ negsuc 1 ∷ []) ≡ 0xF4 ∷ 0x01 ∷ 0x00 ∷ 0x80 ∷ 0xFE ∷ 0xFF ∷ []
+pub row_of_three_posts : row_bytes (pos 500 ∷ negsuc 32767 ∷ negsuc 1 ∷ [])
+    ≡ 0xF4 ∷ 0x01 ∷ 0x00 ∷ 0x80 ∷ 0xFE ∷ 0xFF ∷ []
 unfolding row_bytes
 row_of_three_posts = refl

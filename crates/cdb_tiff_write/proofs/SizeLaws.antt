@@ -33,12 +33,15 @@ family_row_long Low posts = row_long posts
 family_row_long High posts = row_long posts
 family_row_long Mat posts = small_row_long posts
 
-pieces_long : {A : Type 0} (n size : ℕ) (piece : ℕ → List A) → ((k : ℕ) → length (piece k) ≡ size) → length (last_first n piece) ≡ n * size
+pieces_long : {A : Type 0} (n size : ℕ) (piece : ℕ → List A) → ((k : ℕ) → length (piece k) ≡ size)
+    → length (last_first n piece) ≡ n * size
 pieces_long zero size piece each = omega arith
-pieces_long (suc n) size piece each = omega (arith, length-append (piece n) (last_first n piece), each n, pieces_long n size piece each)
+pieces_long (suc n) size piece each =
+    omega (arith, length-append (piece n) (last_first n piece), each n, pieces_long n size piece each)
 
 row_count : (ss : List Source) (t : Tile) (row : ℕ) → length (row_numbers ss t row) ≡ tile_side t
-row_count ss t row = length-map-range_with_len (λ col. coded (kind_of t.family) (tile_value ss t row col)) 0 (tile_side t)
+row_count ss t row = length-map-range_with_len (λ col. coded (kind_of t.family) (tile_value ss t row col))
+    0 (tile_side t)
 
 head_of_family : (f : Family) (side : ℕ) → length (head_bytes side (bits_of f)) ≡ 186
 unfolding head_bytes
@@ -52,8 +55,10 @@ unfolding tile_bytes
 tile_bytes_long ss t =
     let n = tile_side t in let b = bits_of t.family / 8 in
     let rows : length (raster_bytes ss t) ≡ n * (n * b) =
-    pieces_long n (n * b) (λ row. family_row t.family (row_numbers ss t row)) (λ row. family_row_long t.family (row_numbers ss t row) ∙ ap (λ k. k * b) (row_count ss t row)) in
-    length-append (head_bytes n (bits_of t.family)) (raster_bytes ss t) ∙ ap (λ k. k + length (raster_bytes ss t)) (head_of_family t.family n)
+    pieces_long n (n * b) (λ row. family_row t.family (row_numbers ss t row))
+    (λ row. family_row_long t.family (row_numbers ss t row) ∙ ap (λ k. k * b) (row_count ss t row)) in
+    length-append (head_bytes n (bits_of t.family)) (raster_bytes ss t)
+    ∙ ap (λ k. k + length (raster_bytes ss t)) (head_of_family t.family n)
     ∙ ap (λ k. 186 + k) (rows ∙ sym (mul_assoc n n b))
 
 elevation_size : (f : Family) (n : ℕ) → kind_of f ≡ Elevation → 186 + n * n * (bits_of f / 8) ≡ 186 + 2 * n * n
@@ -75,6 +80,7 @@ pub are_sized : TilesAreSized
 are_sized = record {
   length_is = tile_bytes_long;
   elevations = λ t e. elevation_size t.family (tile_side t) e;
-  materials = λ t e. ap (λ f. 186 + tile_side t * tile_side t * (bits_of f / 8)) e ∙ (let one : 186 + tile_side t * tile_side t * 1 ≡ 186 + tile_side t * tile_side t = omega arith in one);
+  materials = λ t e. ap (λ f. 186 + tile_side t * tile_side t * (bits_of f / 8)) e
+      ∙ (let one : 186 + tile_side t * tile_side t * 1 ≡ 186 + tile_side t * tile_side t = omega arith in one);
   most = λ t. most_size t.family (tile_side t) (pow_mono {j = 10} (omega arith));
 }

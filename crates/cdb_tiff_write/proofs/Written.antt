@@ -31,31 +31,41 @@ two_rows : (xs ys : List ℤ) → written.written_raster (xs ++ ys) ≡ written.
 two_rows xs ys = flat_map-append (λ v. little_bytes 2 (cast_unsigned w16 v)) xs ys
 
 -- rows that are spelled one by one are spelled in one
-same_raster : (rows : ℕ → List ℤ) (n : ℕ) → last_first n (λ r. file.row_bytes (rows r)) ≡ written.written_raster (last_first n rows)
+same_raster : (rows : ℕ → List ℤ) (n : ℕ)
+    → last_first n (λ r. file.row_bytes (rows r)) ≡ written.written_raster (last_first n rows)
 same_raster rows zero = refl
 same_raster rows (suc n) =
-    ap (λ (l : List ℕ). l ++ last_first n (λ r. file.row_bytes (rows r))) (same_row (rows n)) ∙ ap (λ (l : List ℕ). written.written_raster (rows n) ++ l) (same_raster rows n)
+    ap (λ (l : List ℕ). l ++ last_first n (λ r. file.row_bytes (rows r))) (same_row (rows n))
+    ∙ ap (λ (l : List ℕ). written.written_raster (rows n) ++ l) (same_raster rows n)
     ∙ sym (two_rows (rows n) (last_first n rows))
 
-whole : (side : ℕ) (rows : ℕ → List ℤ) → file.head_bytes side 16 ++ last_first side (λ r. file.row_bytes (rows r)) ≡ written.written_tile side (last_first side rows)
-whole side rows = ap (λ (l : List ℕ). l ++ last_first side (λ r. file.row_bytes (rows r))) (same_head side) ∙ ap (λ (l : List ℕ). written.written_head side 16 ++ l) (same_raster rows side)
+whole : (side : ℕ) (rows : ℕ → List ℤ) → file.head_bytes side 16 ++ last_first side (λ r. file.row_bytes (rows r))
+    ≡ written.written_tile side (last_first side rows)
+whole side rows = ap (λ (l : List ℕ). l ++ last_first side (λ r. file.row_bytes (rows r))) (same_head side)
+    ∙ ap (λ (l : List ℕ). written.written_head side 16 ++ l) (same_raster rows side)
 
-by_family : (f : Family) (side : ℕ) (rows : ℕ → List ℤ) → kind_of f ≡ Elevation → file.head_bytes side (bits_of f) ++ last_first side (λ r. family_row f (rows r)) ≡ written.written_tile side (last_first side rows)
+by_family : (f : Family) (side : ℕ) (rows : ℕ → List ℤ) → kind_of f ≡ Elevation
+    → file.head_bytes side (bits_of f) ++ last_first side (λ r. family_row f (rows r))
+    ≡ written.written_tile side (last_first side rows)
 by_family Elev side rows e = whole side rows
 by_family Low side rows e = whole side rows
 by_family High side rows e = whole side rows
 by_family Mat side rows e = cc
 
-same_file : (t : Tile) (ss : List Source) → kind_of t.family ≡ Elevation → file.tile_bytes ss t ≡ written.written_tile (tile_side t) (tile_numbers ss t)
+same_file : (t : Tile) (ss : List Source) → kind_of t.family ≡ Elevation
+    → file.tile_bytes ss t ≡ written.written_tile (tile_side t) (tile_numbers ss t)
 unfolding file.tile_bytes
 same_file t ss e = by_family t.family (tile_side t) (row_numbers ss t) e
 
-pub rows_length : (rows : ℕ → List ℤ) (side n : ℕ) → ((r : ℕ) → length (rows r) ≡ side) → length (last_first n rows) ≡ n * side
+pub rows_length : (rows : ℕ → List ℤ) (side n : ℕ) → ((r : ℕ) → length (rows r) ≡ side)
+    → length (last_first n rows) ≡ n * side
 rows_length rows side zero e = omega arith
-rows_length rows side (suc n) e = let rest = rows_length rows side n e in let row = e n in omega (arith, length-append (rows n) (last_first n rows), rest, row)
+rows_length rows side (suc n) e = let rest = rows_length rows side n e in
+    let row = e n in omega (arith, length-append (rows n) (last_first n rows), rest, row)
 
 pub written_tiles : IsWrittenTile
 written_tiles = record {
   bytes = same_file;
-  count = λ t ss. rows_length (row_numbers ss t) (tile_side t) (tile_side t) (λ r. length-map-range_with_len (λ col. coded (kind_of t.family) (tile_value ss t r col)) 0 (tile_side t));
+  count = λ t ss. rows_length (row_numbers ss t) (tile_side t) (tile_side t)
+      (λ r. length-map-range_with_len (λ col. coded (kind_of t.family) (tile_value ss t r col)) 0 (tile_side t));
 }

@@ -26,7 +26,8 @@ row_of_frame side frame row = take side (drop (row * side) frame)
 
 -- the bytes of a file of a tile whose frame has these numbers
 abbrev pub frame_bytes : Tile → List ℤ → List ℕ
-frame_bytes t frame = head_bytes (tile_side t) (bits_of t.family) ++ last_first (tile_side t) (λ row. laid_row t.family (row_of_frame (tile_side t) frame row))
+frame_bytes t frame = head_bytes (tile_side t) (bits_of t.family) ++ last_first (tile_side t)
+    (λ row. laid_row t.family (row_of_frame (tile_side t) frame row))
 
 -- the length of a tile's file: the head, and one or two bytes for each element
 abbrev pub tile_size : Tile → ℕ

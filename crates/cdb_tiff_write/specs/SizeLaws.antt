@@ -14,6 +14,7 @@ use Rattle.cdb_model.specs.declared.limits.TheConstants.{MOST_TILE_BYTES, TILE_H
 -- 2,097,338 bytes at most
 pub record TilesAreSized : Type 0 where
   pub length_is : (ss : List Source) (t : Tile) → length (tile_bytes ss t) ≡ tile_size t
-  pub elevations : (t : Tile) → kind_of t.family ≡ Elevation → tile_size t ≡ TILE_HEAD_BYTES + 2 * tile_side t * tile_side t
+  pub elevations : (t : Tile) → kind_of t.family ≡ Elevation
+      → tile_size t ≡ TILE_HEAD_BYTES + 2 * tile_side t * tile_side t
   pub materials : (t : Tile) → t.family ≡ Mat → tile_size t ≡ TILE_HEAD_BYTES + tile_side t * tile_side t
   pub most : (t : Tile) → tile_size t ≤ MOST_TILE_BYTES

@@ -8,4 +8,5 @@ use Rattle.cdb_tiff_write.specs.Samples.{sample_in}
 
 -- A number where it has a value, else the sample of this number.
 abbrev pub or_sample : Kind → ℕ → List ℕ → ℕ → ℤ → ℤ
-or_sample kind bits bytes number own = coded kind (option_or (value_of kind own) (value_of kind (sample_in bits bytes number)))
+or_sample kind bits bytes number own =
+    coded kind (option_or (value_of kind own) (value_of kind (sample_in bits bytes number)))

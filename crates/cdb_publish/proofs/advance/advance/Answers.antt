@@ -9,7 +9,9 @@ pub returns-clause-fits : goal.returns-clause-fits
 returns-clause-fits g c P x number fits = record {
   plan = fits.plan;
   done = ap (λ n. n + 1) fits.done;
-  sources = rest_sources c.args.work.now.sources.items c.pop.new.self.items x c.pop.result number (vec_len c.args.work.now.sources) c.args.work.now.sources.ok.0 c.pop.ensures.items c.pop.ensures.value fits.sources;
+  sources = rest_sources c.args.work.now.sources.items c.pop.new.self.items x c.pop.result number
+      (vec_len c.args.work.now.sources)
+      c.args.work.now.sources.ok.0 c.pop.ensures.items c.pop.ensures.value fits.sources;
 }
 
 pub returns-clause-reads : goal.returns-clause-reads

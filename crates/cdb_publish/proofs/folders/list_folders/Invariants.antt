@@ -12,6 +12,7 @@ invariant-loop-k l = record {
 
 abbrev pub invariant-loop-tile : goal.invariant-loop-tile
 invariant-loop-tile l = record {
-  folders : map (λ f. f.bytes) l.folders.keys ≡ each_once (map folder_above (paths_in l.item.version (length l.item.heads) (take l.tile-index l.item.tiles)));
+  folders : map (λ f. f.bytes) l.folders.keys
+      ≡ each_once (map folder_above (paths_in l.item.version (length l.item.heads) (take l.tile-index l.item.tiles)));
   few : length l.folders.keys ≤ length l.item.heads + l.tile-index;
 }

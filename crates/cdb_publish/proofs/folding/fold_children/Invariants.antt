@@ -13,8 +13,13 @@ invariant-loop-child g l = record {
   state : g.D.Disk.state l.disk ≡ g.D.Disk.state l.fn.disk;
   time : Rests (g.D.Disk.clock l.fn.disk) (g.D.Disk.clock l.disk) (g.D.Disk.since l.fn.disk) (g.D.Disk.since l.disk);
   later : g.D.Disk.fault_count l.fn.disk ≤ g.D.Disk.fault_count l.disk;
-  sizes : g.D.Disk.tells → AreSized (g.D.Disk.state l.fn.disk).present (child_needs l.plan l.chain.records (take l.child-index l.children));
-  reads : g.D.Disk.read_count l.disk ≤ g.D.Disk.read_count l.fn.disk + length (child_needs l.plan l.chain.records (take l.child-index l.children));
-  folded : g.D.Disk.tells → (ss : List Source) (start : ℕ → ℕ → Option ℤ) → All (λ c. IsNamed (g.D.Disk.state l.fn.disk).present ss c (look l.plan l.chain.records c)) l.children
-      → IsPlain l.tile start → IsFolded ss l.tile start [] l.fn.frame → IsFolded ss l.tile start (take l.child-index l.children) l.frame;
+  sizes : g.D.Disk.tells
+      → AreSized (g.D.Disk.state l.fn.disk).present
+      (child_needs l.plan l.chain.records (take l.child-index l.children));
+  reads : g.D.Disk.read_count l.disk ≤ g.D.Disk.read_count l.fn.disk + length
+      (child_needs l.plan l.chain.records (take l.child-index l.children));
+  folded : g.D.Disk.tells → (ss : List Source) (start : ℕ → ℕ → Option ℤ)
+      → All (λ c. IsNamed (g.D.Disk.state l.fn.disk).present ss c (look l.plan l.chain.records c)) l.children
+      → IsPlain l.tile start → IsFolded ss l.tile start [] l.fn.frame
+      → IsFolded ss l.tile start (take l.child-index l.children) l.frame;
 }

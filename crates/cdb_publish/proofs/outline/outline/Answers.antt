@@ -22,7 +22,11 @@ returns-then-newest-eq-MOST_VERSIONS-clause-refused c =
       subst L heads c.in-Ok.ensures.light,
       (
         c.entries.result + c.len.result,
-        record { tiles = c.in-Ok.tiles.items; touched = subst T heads c.in-Ok.ensures.touched; count_is = omega (arith, c.entries.ensures, n) },
+        record {
+          tiles = c.in-Ok.tiles.items;
+          touched = subst T heads c.in-Ok.ensures.touched;
+          count_is = omega (arith, c.entries.ensures, n);
+        },
         omega (arith, c.if-count-gt-ENTRY_LIMIT.false),
       ),
       omega (arith, c.newest-newest.ensures.value, c.if-newest-eq-MOST_VERSIONS.true),
@@ -37,7 +41,11 @@ returns-clause-accepted c =
       subst L heads c.in-Ok.ensures.light,
       (
         c.entries.result + c.len.result,
-        record { tiles = c.in-Ok.tiles.items; touched = subst T heads c.in-Ok.ensures.touched; count_is = omega (arith, c.entries.ensures, n) },
+        record {
+          tiles = c.in-Ok.tiles.items;
+          touched = subst T heads c.in-Ok.ensures.touched;
+          count_is = omega (arith, c.entries.ensures, n);
+        },
         omega (arith, c.if-count-gt-ENTRY_LIMIT.false),
       ),
       omega (arith, c.newest-newest.ensures.value, c.newest-newest.ensures.most, c.if-newest-eq-MOST_VERSIONS.false),
@@ -70,9 +78,18 @@ returns-clause-plans c P list are =
       touched = subst U (sym c.from-2.ensures) touched;
       bytes = c.in_ok-bytes.ensures ∙ (λ i. record_text (v i) (h i) c.from-2.result);
       folders = c.in_ok-folders.ensures.folders
-          ∙ (λ i. each_once (map folder_above (paths_in (v i) ((ap length h ∙ length-map x (λ s. s.head)) i) c.from-2.result)))
+          ∙ (λ i. each_once
+          (map folder_above (paths_in (v i) ((ap length h ∙ length-map x (λ s. s.head)) i) c.from-2.result)))
           ∙ folders_are P x c.from-2.result;
     }
 
 pub overflow_add-count : goal.overflow_add-count
-overflow_add-count c = omega (arith, c.entries.ensures, entries_few c.args.chain.now.records, c.newest-newest.ensures.value, c.newest-newest.ensures.most, c.in-Ok.ensures.few)
+overflow_add-count c =
+    omega (
+      arith,
+      c.entries.ensures,
+      entries_few c.args.chain.now.records,
+      c.newest-newest.ensures.value,
+      c.newest-newest.ensures.most,
+      c.in-Ok.ensures.few,
+    )

@@ -6,5 +6,6 @@ pub returns-clause-few : goal.returns-clause-few
 returns-clause-few c = omega (
   arith,
   c.if-prove.false,
-  within_load c.args.heads.now c.load.result c.in-Ok.tiles.items c.load.ensures.load (record { exact = c.in-Ok.ensures.listed.exact; ordered = c.in-Ok.ensures.order }),
+  within_load c.args.heads.now c.load.result c.in-Ok.tiles.items c.load.ensures.load
+      (record { exact = c.in-Ok.ensures.listed.exact; ordered = c.in-Ok.ensures.order }),
 )

@@ -10,7 +10,8 @@ invariant-pieces g l = record {
   within : l.done ≤ l.source.head.rows;
   there : g.D.Disk.tells → IsThere ((g.D.Disk.state l.disk).present l.path.bytes);
   state : g.D.Disk.tells → (bytes : List ℕ) (s : State) → g.D.Disk.state l.fn.disk ≡ after_pieces l.path.bytes bytes s
-      → g.D.Disk.state l.disk ≡ after_pieces l.path.bytes (bytes ++ posts_text (take (l.done * l.source.head.cols) l.source.posts)) s;
+      → g.D.Disk.state l.disk
+      ≡ after_pieces l.path.bytes (bytes ++ posts_text (take (l.done * l.source.head.cols) l.source.posts)) s;
   only : g.D.Disk.tells → WritesOnly g.D.Disk.clock g.D.Disk.since g.D.Disk.state l.path.bytes l.fn.disk l.disk;
   later : g.D.Disk.fault_count l.fn.disk ≤ g.D.Disk.fault_count l.disk;
   reads : g.D.Disk.read_count l.disk ≡ g.D.Disk.read_count l.fn.disk;

@@ -14,16 +14,29 @@ returns-clause-underway g c told P are clean =
     let s = g.D.Disk.state c.args.disk.now in
     let here = g.met.D.Disk.present_possible c.args.disk.now told in
     let F : List Source → Type 0 = λ ss. Plans c.in-Ok.plan P ss in
-    let plans = subst F c.as_slice.ensures.value (c.in-Ok.ensures.plans P (clean.whole.stands s.present here).publications are) in
+    let plans =
+    subst F c.as_slice.ensures.value (c.in-Ok.ensures.plans P (clean.whole.stands s.present here).publications are)
+    in
     record {
       work = record { plan = c.in-Ok.plan; sources = c.last_first.result; done = 0; frames = c.in-Ok-frames.frames };
       is = c.of_work.ensures.work;
-      fits = record { plan = plans; done = refl; sources = ap reverse c.last_first.ensures ∙ reverse-reverse c.args.sources.items };
+      fits = record {
+        plan = plans;
+        done = refl;
+        sources = ap reverse c.last_first.ensures
+            ∙ reverse-reverse c.args.sources.items;
+      };
       records = are;
-      mid = (own.plan_steps P c.args.sources.items c.in-Ok.plan.record.tiles plans.list plans.touched).begins s here clean;
+      mid = (own.plan_steps P c.args.sources.items c.in-Ok.plan.record.tiles plans.list plans.touched).begins s here
+          clean;
     }
 
 pub returns-clause-few : goal.returns-clause-few
 returns-clause-few g c load is =
     let T : List Source → Type 0 = λ ss. IsTouched (heads_of ss) c.in-Ok.plan.record.tiles in
-    omega (arith, c.of_work.ensures.files, within_load (heads_of c.args.sources.items) load c.in-Ok.plan.record.tiles is (subst T c.as_slice.ensures.value c.in-Ok.ensures.touched))
+    omega (
+      arith,
+      c.of_work.ensures.files,
+      within_load (heads_of c.args.sources.items) load c.in-Ok.plan.record.tiles is
+          (subst T c.as_slice.ensures.value c.in-Ok.ensures.touched),
+    )

@@ -22,9 +22,11 @@ returns-in-Ok-clause-published g c told P x number u one =
     let at = opened c.args.self.now w P x number kept s is u in
     let full : w.done ≡ steps_before_head w.plan = omega (arith, c.left.ensures, c.if-left-eq1.true) in
     let version : c.args.self.now.version ≡ length P + 1 = c.requires.next ∙ ap (λ n. n + 1) at.records.count in (
-      c.in-Ok.ensures.clean told P x version (now_ready w P x number s at.fits (g.met.D.Disk.present_possible c.args.disk.now told) at.mid full),
+      c.in-Ok.ensures.clean told P x version
+          (now_ready w P x number s at.fits (g.met.D.Disk.present_possible c.args.disk.now told) at.mid full),
       c.add.ensures.publication P x at.records (ap (λ (r : Record). r.heads) c.into_record.ensures ∙ at.fits.plan.heads)
-          (let T : Record → Type 0 = λ r. IsTouched (heads_of x) r.tiles in subst T (sym c.into_record.ensures) at.fits.plan.touched),
+          (let T : Record → Type 0 = λ r. IsTouched (heads_of x) r.tiles in
+          subst T (sym c.into_record.ensures) at.fits.plan.touched),
     )
 
 pub returns-in-Ok-clause-last_moments : goal.returns-in-Ok-clause-last_moments
@@ -34,7 +36,8 @@ returns-in-Ok-clause-last_moments g c told P x number u one =
     let at = opened c.args.self.now w P x number c.args.chain.now.records s is u in
     let full : w.done ≡ steps_before_head w.plan = omega (arith, c.left.ensures, c.if-left-eq1.true) in
     let version : c.args.self.now.version ≡ length P + 1 = c.requires.next ∙ ap (λ n. n + 1) at.records.count in
-    c.publish_head.ensures.moments told P x version (now_ready w P x number s at.fits (g.met.D.Disk.present_possible c.args.disk.now told) at.mid full)
+    c.publish_head.ensures.moments told P x version
+    (now_ready w P x number s at.fits (g.met.D.Disk.present_possible c.args.disk.now told) at.mid full)
 
 pub returns-in-Err-clause-last_moments : goal.returns-in-Err-clause-last_moments
 returns-in-Err-clause-last_moments g c told P x number u one =
@@ -43,7 +46,8 @@ returns-in-Err-clause-last_moments g c told P x number u one =
     let at = opened c.args.self.now w P x number c.args.chain.now.records s is u in
     let full : w.done ≡ steps_before_head w.plan = omega (arith, c.left.ensures, c.if-left-eq1.true) in
     let version : c.args.self.now.version ≡ length P + 1 = c.requires.next ∙ ap (λ n. n + 1) at.records.count in
-    c.publish_head.ensures.moments told P x version (now_ready w P x number s at.fits (g.met.D.Disk.present_possible c.args.disk.now told) at.mid full)
+    c.publish_head.ensures.moments told P x version
+    (now_ready w P x number s at.fits (g.met.D.Disk.present_possible c.args.disk.now told) at.mid full)
 
 pub returns-in-Ok-advance-clause-going : goal.returns-in-Ok-advance-clause-going
 returns-in-Ok-advance-clause-going g c told P x number u more =
@@ -57,8 +61,10 @@ returns-in-Ok-advance-clause-going g c told P x number u more =
       fits = c.in-Ok-advance.ensures.fits P x number at.fits;
       records = at.records;
       mid = subst M (sym c.in-Ok-advance.ensures.plan)
-          (step_leads g.D.Disk.clock g.D.Disk.since g.D.Disk.state P x w.plan.record.tiles (keeps w P x number at.fits) number c.args.disk.now c.advance.new.disk
-          (g.met.D.Disk.present_possible c.args.disk.now told) at.mid (Ok c.in-Ok-advance.field-0) (c.in-Ok-advance.ensures.made told P x number at.fits at.records at.mid));
+          (step_leads g.D.Disk.clock g.D.Disk.since g.D.Disk.state P x w.plan.record.tiles (keeps w P x number at.fits)
+          number c.args.disk.now c.advance.new.disk
+          (g.met.D.Disk.present_possible c.args.disk.now told) at.mid (Ok c.in-Ok-advance.field-0)
+          (c.in-Ok-advance.ensures.made told P x number at.fits at.records at.mid));
     }
 
 pub returns-in-Ok-advance-clause-moments : goal.returns-in-Ok-advance-clause-moments
@@ -66,16 +72,20 @@ returns-in-Ok-advance-clause-moments g c told P x number u more =
     let w = c.in-Some.work in let s = g.D.Disk.state c.args.disk.now in
     let is : c.args.self.now.work ≡ Some c.in-Some.work = cc in
     let at = opened c.args.self.now w P x number c.args.chain.now.records s is u in
-    step_stands g.D.Disk.clock g.D.Disk.since g.D.Disk.state P x w.plan.record.tiles (keeps w P x number at.fits) number c.args.disk.now c.advance.new.disk
-    (g.met.D.Disk.present_possible c.args.disk.now told) at.mid c.advance.result (c.advance.ensures.made told P x number at.fits at.records at.mid)
+    step_stands g.D.Disk.clock g.D.Disk.since g.D.Disk.state P x w.plan.record.tiles (keeps w P x number at.fits)
+    number c.args.disk.now c.advance.new.disk
+    (g.met.D.Disk.present_possible c.args.disk.now told)
+    at.mid c.advance.result (c.advance.ensures.made told P x number at.fits at.records at.mid)
 
 pub returns-in-Err-advance-clause-moments : goal.returns-in-Err-advance-clause-moments
 returns-in-Err-advance-clause-moments g c told P x number u more =
     let w = c.in-Some.work in let s = g.D.Disk.state c.args.disk.now in
     let is : c.args.self.now.work ≡ Some c.in-Some.work = cc in
     let at = opened c.args.self.now w P x number c.args.chain.now.records s is u in
-    step_stands g.D.Disk.clock g.D.Disk.since g.D.Disk.state P x w.plan.record.tiles (keeps w P x number at.fits) number c.args.disk.now c.advance.new.disk
-    (g.met.D.Disk.present_possible c.args.disk.now told) at.mid c.advance.result (c.advance.ensures.made told P x number at.fits at.records at.mid)
+    step_stands g.D.Disk.clock g.D.Disk.since g.D.Disk.state P x w.plan.record.tiles (keeps w P x number at.fits)
+    number c.args.disk.now c.advance.new.disk
+    (g.met.D.Disk.present_possible c.args.disk.now told)
+    at.mid c.advance.result (c.advance.ensures.made told P x number at.fits at.records at.mid)
 
 pub returns-in-Err-advance-clause-undamaged : goal.returns-in-Err-advance-clause-undamaged
 returns-in-Err-advance-clause-undamaged g c told P x number u =
@@ -87,14 +97,20 @@ returns-in-Err-advance-clause-undamaged g c told P x number u =
 pub returns-in-Ok-advance-clause-sizes : goal.returns-in-Ok-advance-clause-sizes
 returns-in-Ok-advance-clause-sizes g c w is more =
     let at : c.args.self.now.work ≡ Some c.in-Some.work = cc in
-    let S : Work → Type 0 = λ v. SizesTold {T = Progress} g.D.Disk.tells (g.D.Disk.state c.args.disk.now).present v.plan c.args.chain.now.records v.done
+    let S : Work
+    → Type 0 =
+    λ v. SizesTold {T = Progress} g.D.Disk.tells (g.D.Disk.state c.args.disk.now).present v.plan
+    c.args.chain.now.records v.done
     (g.D.Disk.read_count c.args.disk.now) (g.D.Disk.read_count c.advance.new.disk) (Ok Going) in
     subst S (some_is c.in-Some.work w (sym at ∙ is)) c.in-Ok-advance.ensures.sizes
 
 pub returns-in-Err-advance-clause-sizes : goal.returns-in-Err-advance-clause-sizes
 returns-in-Err-advance-clause-sizes g c w is more =
     let at : c.args.self.now.work ≡ Some c.in-Some.work = cc in
-    let S : Work → Type 0 = λ v. SizesTold {T = Progress} g.D.Disk.tells (g.D.Disk.state c.args.disk.now).present v.plan c.args.chain.now.records v.done
+    let S : Work
+    → Type 0 =
+    λ v. SizesTold {T = Progress} g.D.Disk.tells (g.D.Disk.state c.args.disk.now).present v.plan
+    c.args.chain.now.records v.done
     (g.D.Disk.read_count c.args.disk.now) (g.D.Disk.read_count c.advance.new.disk) (Err c.in-Err-advance.error) in
     subst S (some_is c.in-Some.work w (sym at ∙ is)) c.in-Err-advance.ensures.sizes
 
