@@ -31,9 +31,9 @@ use Rattle.cdb_engine.proofs.OpenTracks.{adds_rests}
 use Rattle.cdb_front.specs.Checking.{SaysAgreed, AgreesAll, AgreesAsListed, FindsFiles, FindsListed}
 use Rattle.cdb_front.specs.Checking.{Checks, CompletesCheckOf, agrees_line}
 use Rattle.cdb_front.specs.inside.Checking.{checked_status}
-use Rattle.cdb_front.specs.Completeness.{Still}
 use Rattle.cdb_front.specs.Devices.{WritesPart}
 use Rattle.cdb_front.specs.EntryStore.{HasStore}
+use Rattle.cdb_front.specs.Failures.{Still}
 use Rattle.cdb_front.specs.OverStore.{EndsOver, in_opening, behind_opening}
 use Rattle.cdb_front.specs.RunOutcome.{EndsWith, is_whole, is_part, status_of}
 use Rattle.cdb_front.specs.declared.exit_status.Status.{Status}

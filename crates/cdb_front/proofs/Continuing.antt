@@ -1,5 +1,6 @@
 -- Any number of runs, each over what a stop of the one before left, or on the very disk.
-use Rattle.std.proofs.Common.{◌≡◌, ℕ, ◌⊎◌, inl, inr, List, [], ◌∷◌, ◌++◌, Option, None, Some, Contains, refl, ap, sym, ◌∙◌, subst, append_assoc, append-nil, arith}
+use Rattle.std.proofs.Common.{◌≡◌, ℕ, ◌⊎◌, inl, inr, List, [], ◌∷◌, ◌++◌, Option, None, Some, Contains, refl, ap, sym}
+use Rattle.std.proofs.Common.{◌∙◌, subst, append_assoc, append-nil, arith}
 use Rattle.std.specs.List.{AllByRecursion}
 use Rattle.std.proofs.lemmas.List.{append_cancel_left}
 use Rattle.std.proofs.lemmas.List.Elements.{Contains-append_left, Contains-append_right}
@@ -17,12 +18,15 @@ use Rattle.cdb_crash.specs.Crash.{IsClear, IsFaulted, IsEither}
 use Rattle.cdb_files.specs.Disk as disk
 use Rattle.cdb_files.specs.Disk.{IsImage}
 use Rattle.cdb_engine.specs.Store.{IsStore}
-use Rattle.cdb_front.specs.Continued.{Succeeds, stopped, unstopped, base_for, acked_at, acked_by, IsAmong, MayLeave, Succession, HasAcked, Carried, Continues}
-use Rattle.cdb_front.specs.Headline.{Devices, Life, Goes, Meets, Reopens, StopLeaves, amid, at_end}
+use Rattle.cdb_front.specs.Continued.{Succeeds, stopped, unstopped, base_for, acked_at, acked_by, IsAmong, MayLeave}
+use Rattle.cdb_front.specs.Continued.{Succession, HasAcked, Carried, MeetsScript, Continues}
+use Rattle.cdb_front.specs.Headline.{Devices, Life, ReadsScript, Reopens, StopLeaves, amid, at_end, steps_behind}
 use Rattle.cdb_front.specs.RunOutcome.{Hears, IsOfStore, WasOpened, HasNoStore, IsLeftAtRest, RestsAt, StandsAtExit}
 use Rattle.cdb_front.specs.RunProgress.{Holds}
 use Rattle.cdb_front.specs.declared.exit_status.Status.{Status}
-use Rattle.cdb_front.specs.declared.exit_status.Status.TheVariants.{Done, Memory, Usage, InputFault, OutputFault, StoreFault, NotAStore, TooLong, Differs, Refused, Damaged}
+use Rattle.cdb_front.specs.declared.exit_status.Status.TheVariants.{Done, Memory, Usage, InputFault, OutputFault}
+use Rattle.cdb_front.specs.declared.exit_status.Status.TheVariants.{StoreFault, NotAStore, TooLong, Differs, Refused}
+use Rattle.cdb_front.specs.declared.exit_status.Status.TheVariants.{Damaged}
 use Rattle.cdb_front.proofs.Exits.{IsAcknowledged, kept_first, take-none}
 use Rattle.cdb_front.proofs.Many.{only_whole}
 
@@ -184,7 +188,7 @@ again list (other ∷ []) entry d store clear maps image = by (maps d.present im
 again list (a ∷ b ∷ early) entry d store clear maps image = absurd store
 
 module _ (v : Devices) (life : Life v) (base : Base) (now_is : base.moment ≡ v.clock life.old)
-    (goes : Goes v life (Some base)) where
+    (goes : ReadsScript v life (Some base)) where
   abbrev kept : List Publication
   kept = acknowledged goes.outcome.run.begun goes.outcome.transcript.answers goes.outcome.transcript.wrote
 
@@ -192,7 +196,7 @@ module _ (v : Devices) (life : Life v) (base : Base) (now_is : base.moment ≡ v
   begun_none closed =
       let t = goes.outcome.transcript in
       let none = heard_nothing goes.outcome.status t.lines t.heard t.rest closed t.hears in
-      let items = no_items t.items t.unmade (ap (items_of life.most) (sym none) ∙ t.items_are) in
+      let items = no_items t.items t.unmade (ap (items_of (steps_behind life.task)) (sym none) ∙ t.items_are) in
       begins_none (Holds v.shelf_tells (v.files life.shelf)) base.list t.items t.answers goes.outcome.run.state
       goes.outcome.run.begun items
       goes.outcome.run.run goes.outcome.run.has_begun
@@ -268,7 +272,8 @@ module _ (v : Devices) (life : Life v) (base : Base) (now_is : base.moment ≡ v
       }
 
   -- the store was opened
-  rested : (status : Status) (s : KnownState) (d : disk.State) → WasOpened status → RestsAt status s d → IsLeftAtRest s d
+  rested : (status : Status) (s : KnownState) (d : disk.State) → WasOpened status → RestsAt status s d
+      → IsLeftAtRest s d
   rested Done s d o r = r
   rested Memory s d o r = absurd o
   rested Usage s d o r = absurd o
@@ -432,7 +437,7 @@ module _ (v : Devices) (life : Life v) (base : Base) (now_is : base.moment ≡ v
 -- one run more
 next_run : (v : Devices) (list : List Publication) (early : List (List Publication)) (last life : Life v)
     (earlier : List (Life v))
-    (line : Succession v list early last (life ∷ earlier)) → v.disk_tells → Meets v last
+    (line : Succession v list early last (life ∷ earlier)) → v.disk_tells → MeetsScript v last
     → (before : Carried v list early life earlier line.1)
     → Found v life (base_for v before.now before.others life) refl before.goes
     (acked_by v life last line.0 (base_for v before.now before.others life) before.goes) (v.state last.old)

@@ -14,9 +14,9 @@ use Rattle.cdb_manifest.specs.declared.record_.Record.{Record}
 use Rattle.cdb_check.specs.Expected.{Agrees, FirstOther, expected_files}
 use Rattle.cdb_check.specs.Laws.{IsFileCount}
 use Rattle.cdb_engine.specs.Checks.{AreOpened}
-use Rattle.cdb_front.specs.Completeness.{Still}
 use Rattle.cdb_front.specs.Devices.{WritesPart}
 use Rattle.cdb_front.specs.EntryStore.{HasStore}
+use Rattle.cdb_front.specs.Failures.{Still}
 use Rattle.cdb_front.specs.OverStore.{EndsOver}
 use Rattle.cdb_front.specs.RunOutcome.{EndsWith}
 use Rattle.cdb_front.specs.declared.exit_status.Status.{Status}

@@ -1,16 +1,14 @@
 -- What a run says where no device fails.
-use Rattle.std.specs.Prelude.{◌≡◌, ◌≢◌, ◌⊎◌, ◌<◌, ◌-◌, ◌^◌, ℕ, List, Some, IfSome, length, All}
+use Rattle.std.specs.Prelude.{◌≡◌, ◌≢◌, ◌⊎◌, ◌<◌, ◌^◌, ℕ, List, Some, IfSome, length, All}
 use Rattle.cdb_model.specs.Causes.{Rose}
 use Rattle.cdb_model.specs.Images.{Base}
 use Rattle.cdb_model.specs.RunLaws.{IsOfNoFailure}
 use Rattle.cdb_model.specs.Events as machine
+use Rattle.cdb_front.specs.Failures.{Still}
 use Rattle.cdb_front.specs.RunOutcome.{QuitsInTime}
-use Rattle.cdb_front.specs.Headline.{Devices, Life, Goes}
-use Rattle.cdb_front.specs.declared.exit_status.Status.TheVariants.{Done, Memory, Usage, InputFault, OutputFault, StoreFault, TooLong}
-
--- a count of failures stays, below its last value
-abbrev pub Still : ℕ → ℕ → Type 0
-Still before now = (now ≡ before) × (before < 2 ^ 64 - 1)
+use Rattle.cdb_front.specs.Headline.{Devices, Life, ReadsScript}
+use Rattle.cdb_front.specs.declared.exit_status.Status.TheVariants.{Done, Memory, Usage, InputFault, OutputFault}
+use Rattle.cdb_front.specs.declared.exit_status.Status.TheVariants.{StoreFault, TooLong}
 
 -- no device fails in the run, a status that blames one has its cause, and the words are accepted
 pub record IsUndisturbed (v : Devices) (output_faults : v.O → ℕ) (life : Life v) : Type 0 where
@@ -33,5 +31,5 @@ pub record IsComplete (v : Devices) (life : Life v) (answers : List machine.Answ
 
 -- where no device fails, a run over a store is complete
 abbrev pub RunsAreComplete : (v : Devices) → (v.O → ℕ) → Type 0
-RunsAreComplete v output_faults = (life : Life v) (base : Base) (goes : Goes v life (Some base))
+RunsAreComplete v output_faults = (life : Life v) (base : Base) (goes : ReadsScript v life (Some base))
     → IsUndisturbed v output_faults life → IsComplete v life goes.outcome.transcript.answers

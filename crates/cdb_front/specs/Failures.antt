@@ -1,11 +1,15 @@
 -- A run ends at its first call of the input or the output that fails: no further one follows, as the count of failures
 -- says.
-use Rattle.std.specs.Prelude.{◌≡◌, ℕ, ◌+◌, ◌≤◌, List, Option, Result, Ok, Err}
+use Rattle.std.specs.Prelude.{◌≡◌, ℕ, ◌+◌, ◌-◌, ◌^◌, ◌<◌, ◌≤◌, List, Option, Result, Ok, Err}
 use Rattle.cdb_model.specs.Causes.{Rose}
 use Rattle.cdb_front.specs.declared.exit_status.Status.{Status}
 use Rattle.cdb_front.specs.declared.exit_status.Status.TheVariants.{InputFault, OutputFault}
 use Rattle.cdb_front.specs.declared.fed.Fed.{Fed}
 use Rattle.cdb_front.specs.declared.fed.Fed.TheVariants as fed
+
+-- a count of failures stays, below its last value
+abbrev pub Still : ℕ → ℕ → Type 0
+Still before now = (now ≡ before) × (before < 2 ^ 64 - 1)
 
 -- a call that fails raises the count by at most one, and no other call changes it
 abbrev pub FailsOnce : {T E : Type 0} → Result T E → ℕ → ℕ → Type 0

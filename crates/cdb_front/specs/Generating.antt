@@ -17,9 +17,9 @@ use Rattle.cdb_engine.specs.Filling.{AreMade, StopsAfter}
 use Rattle.cdb_engine.specs.declared.errors.PopulateError.{PopulateError}
 use Rattle.cdb_engine.specs.declared.errors.PopulateError.TheVariants as populate
 use Rattle.cdb_front.specs.Beginning.{CountsRecords}
-use Rattle.cdb_front.specs.Completeness.{Still}
 use Rattle.cdb_front.specs.Devices.{WritesPart}
 use Rattle.cdb_front.specs.EntryStore.{HasStore}
+use Rattle.cdb_front.specs.Failures.{Still}
 use Rattle.cdb_front.specs.OverStore.{EndsOver}
 use Rattle.cdb_front.specs.RunOutcome.{EndsWith}
 use Rattle.cdb_front.specs.declared.exit_status.Limit.{Limit}

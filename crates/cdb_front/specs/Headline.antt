@@ -1,4 +1,4 @@
--- The program over any number of runs, each over what a stop of the one before left.
+-- The program over any number of runs of any mode, each over what a stop of the one before left.
 use Rattle.std.specs.Prelude.{◌≡◌, ◌⊎◌, ℕ, List, [], ◌∷◌, ◌++◌, Option, Some, Contains}
 use Rattle.cdb_model.specs.Publications.{Publication}
 use Rattle.cdb_model.specs.Maps.{Text, Content, FileMap}
@@ -11,10 +11,13 @@ use Rattle.cdb_model.specs.Images.{Base}
 use Rattle.cdb_model.specs.Stores.{any_store}
 use Rattle.cdb_model.specs.Transitions.{StateIn, IsFreshIn}
 use Rattle.cdb_front.specs.Beginning.{BeginsAsRead, OpensBy}
+use Rattle.cdb_front.specs.Checking.{Checks}
 use Rattle.cdb_front.specs.EntryStore.{IsKnown}
 use Rattle.cdb_front.specs.Failures.{EndsReading}
+use Rattle.cdb_front.specs.Generating.{Fills}
 use Rattle.cdb_front.specs.RunOutcome.{Outcome}
 use Rattle.cdb_front.specs.declared.exit_status.Status.{Status}
+use Rattle.cdb_front.specs.declared.exit_status.Status.TheVariants.{Done}
 
 -- what is seen of a disk, a shelf, an input and an output
 pub record Devices : Type 1 where
@@ -35,7 +38,14 @@ pub record Devices : Type 1 where
   pub input_faults : I → ℕ
   pub written : O → Option (List ℕ)
 
--- one run of the program: its devices before and after, how many steps follow a line, and its status
+-- what a run is asked for: to read a script, with so many steps behind a line that asks for none; to check the store;
+-- or to make so many publications of the generator that begins with a start
+pub data Task : Type 0 where
+  script : ℕ → Task
+  check : Task
+  fill : ℕ → ℕ → Task
+
+-- one run of the program: its devices before and after, its task, and its status
 pub record Life (v : Devices) : Type 0 where
   pub old : v.D
   pub new : v.D
@@ -45,16 +55,21 @@ pub record Life (v : Devices) : Type 0 where
   pub input' : v.I
   pub output : v.O
   pub output' : v.O
-  pub most : ℕ
+  pub task : Task
   pub status : Status
+
+-- how many steps follow a line of a script
+abbrev pub steps_behind : Task → ℕ
+steps_behind (script most) = most
+steps_behind task = 0
 
 -- the store that it opened is known, or nothing is
 abbrev pub Knows : (v : Devices) → Life v → Option Base → Type 0
 Knows v life from = IsKnown v.disk_tells from (v.clock life.old) (v.state life.old)
 
--- how the run went, from this store, and, whatever the disk held, from a state in which nothing is pending, going or
--- open; and the disk once opening had ended
-pub record Goes (v : Devices) (life : Life v) (from : Option Base) : Type 0 where
+-- how a run of a script went, from this store, and, whatever the disk held, from a state in which nothing is pending,
+-- going or open; and the disk once opening had ended
+pub record ReadsScript (v : Devices) (life : Life v) (from : Option Base) : Type 0 where
   pub opened : v.D
   pub opens : OpensBy v.clock v.since from life.old opened
   pub start : StateIn any_store
@@ -68,13 +83,24 @@ pub record Goes (v : Devices) (life : Life v) (from : Option Base) : Type 0 wher
         from = from;
         opened = v.clock opened;
         start = start;
-        most = life.most;
+        most = steps_behind life.task;
       })
       (v.shelf_faults life.shelf') (v.disk_faults life.new) (v.left life.input) (v.left life.input')
       (v.written life.output') (v.clock life.new) (v.since life.new) (v.state life.new) life.status
   pub begins : BeginsAsRead v.disk_tells (v.state life.old).present start outcome.status
   pub reads : EndsReading outcome.status (v.input_faults life.input) (v.input_faults life.input') (v.left life.input')
       (v.failed_at life.input')
+
+-- how a run went, by its task
+abbrev pub GoesBy : (v : Devices) → Life v → Option Base → Task → Type 0
+GoesBy v life from (script most) = ReadsScript v life from
+GoesBy v life from check = Checks v.disk_tells v.state v.clock v.since life.old life.new (v.written life.output)
+    (v.written life.output') life.status
+GoesBy v life from (fill start count) = Fills v.disk_tells v.state v.clock v.since start count life.old life.new
+    (v.written life.output) (v.written life.output') life.status
+
+abbrev pub Goes : (v : Devices) → Life v → Option Base → Type 0
+Goes v life from = GoesBy v life from life.task
 
 -- the run is as the program promises
 abbrev pub Meets : (v : Devices) → Life v → Type 0
@@ -99,24 +125,48 @@ pub record Reopens (v : Devices) (life next : Life v) : Type 0 where
 abbrev pub whole_for : (v : Devices) → List Publication → Life v → Base
 whole_for v list life = record { list = list; early = []; moment = v.clock life.old }
 
+-- ---- what a run over a store began and acknowledged
+
+-- the publications that it began: none where it checks
+abbrev pub begun_in : (v : Devices) (life : Life v) (base : Base) (task : Task) → Knows v life (Some base)
+    → GoesBy v life (Some base) task → List Publication
+begun_in v life base (script most) knows goes = goes.outcome.run.begun
+begun_in v life base check knows goes = []
+begun_in v life base (fill start count) knows goes = (goes.store base knows).begun
+
+-- all of them where the run is done
+abbrev pub where_done : Status → List Publication → List Publication
+where_done Done begun = begun
+where_done status begun = []
+
+-- those that it acknowledged at its end: what the answers that were written say to be complete; all that were made,
+-- where the run is done, whose three lines say so, and else none
+abbrev pub acked_in : (v : Devices) (life : Life v) (base : Base) (task : Task) → Knows v life (Some base)
+    → GoesBy v life (Some base) task → List Publication
+acked_in v life base (script most) knows goes =
+    acknowledged goes.outcome.run.begun goes.outcome.transcript.answers goes.outcome.transcript.wrote
+acked_in v life base check knows goes = []
+acked_in v life base (fill start count) knows goes = where_done life.status (goes.store base knows).begun
+
 -- what the run acknowledged before it stopped. A stop within the run is one of another disk, whose calls fail from
 -- there on
 abbrev pub acked : (v : Devices) (life : Life v) (m : FileMap) (opened : List Publication) → StopLeaves v life m
-    → Goes v life (Some (whole_for v opened life)) → List Publication
-acked v life m opened (amid since) goes = []
-acked v life m opened (at_end image) goes =
-    acknowledged goes.outcome.run.begun goes.outcome.transcript.answers goes.outcome.transcript.wrote
+    → Knows v life (Some (whole_for v opened life)) → Goes v life (Some (whole_for v opened life)) → List Publication
+acked v life m opened (amid since) knows goes = []
+acked v life m opened (at_end image) knows goes =
+    acked_in v life (whole_for v opened life) life.task knows goes
 
 -- a run opened a list, and a stop left it followed by the first of the publications begun, with all that are
 -- acknowledged
 pub record LeavesAcknowledged (v : Devices) (life : Life v) (m : FileMap) (stop : StopLeaves v life m)
     (opened now : List Publication) : Type 0 where
+  pub knows : Knows v life (Some (whole_for v opened life))
   pub goes : Goes v life (Some (whole_for v opened life))
   pub first : List Publication
   pub later : List Publication
-  pub joined : goes.outcome.run.begun ≡ first ++ later
+  pub joined : begun_in v life (whole_for v opened life) life.task knows goes ≡ first ++ later
   pub more : List Publication
-  pub holds : first ≡ acked v life m opened stop goes ++ more
+  pub holds : first ≡ acked v life m opened stop knows goes ++ more
   pub now_is : now ≡ opened ++ first
 
 pub record AddsTo (v : Devices) (Before : List Publication → Type 0) (life : Life v) (m : FileMap)
@@ -149,7 +199,7 @@ abbrev pub WasAcked : (v : Devices) (list : List Publication) (last : Life v) (e
     → Publication → Type 0
 WasAcked v list last [] follow now opens x = ⊥
 WasAcked v list last (life ∷ earlier) follow now opens x =
-    Contains (acked v life follow.0.m opens.opened follow.0.stop opens.adds.goes) x
+    Contains (acked v life follow.0.m opens.opened follow.0.stop opens.adds.knows opens.adds.goes) x
     ⊎ WasAcked v list life earlier follow.1 opens.opened opens.before x
 
 -- reopening gives the list of the first store, followed run by run by the first of the publications begun, with every
@@ -193,8 +243,8 @@ devices_of {D = D} {H = H} {I = I} {O = O} disk_tells state clock since disk_fau
       written = written;
     }
 
-abbrev pub life_of : (v : Devices) → v.D → v.D → v.H → v.H → v.I → v.I → v.O → v.O → ℕ → Status → Life v
-life_of v old new shelf shelf' input input' output output' most status = record {
+abbrev pub life_of : (v : Devices) → v.D → v.D → v.H → v.H → v.I → v.I → v.O → v.O → Task → Status → Life v
+life_of v old new shelf shelf' input input' output output' task status = record {
   old = old;
   new = new;
   shelf = shelf;
@@ -203,20 +253,20 @@ life_of v old new shelf shelf' input input' output output' most status = record 
   input' = input';
   output = output;
   output' = output';
-  most = most;
+  task = task;
   status = status;
 }
 
 -- the run is as the program promises, by its devices
 abbrev pub MeetsOf : {D H I O : Type 0} → Type 0 → (D → disk.State) → (D → ℕ) → (D → ℕ → FileMap → Type 0) → (D → ℕ)
     → Type 0 → (H → FileMap) → (H → ℕ) → (I → Option (List ℕ)) → (I → Option (List ℕ)) → (I → ℕ)
-    → (O → Option (List ℕ)) → D → D → H → H → I → I → O → O → ℕ → Status → Type 0
+    → (O → Option (List ℕ)) → D → D → H → H → I → I → O → O → Task → Status → Type 0
 MeetsOf disk_tells state clock since disk_faults shelf_tells files shelf_faults left failed_at input_faults written old
-    new shelf shelf' input input' output output' most status =
+    new shelf shelf' input input' output output' task status =
     Meets
     (devices_of disk_tells state clock since disk_faults shelf_tells files shelf_faults left failed_at input_faults
     written)
     (life_of
     (devices_of disk_tells state clock since disk_faults shelf_tells files shelf_faults left failed_at input_faults
     written)
-    old new shelf shelf' input input' output output' most status)
+    old new shelf shelf' input input' output output' task status)

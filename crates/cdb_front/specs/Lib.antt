@@ -11,11 +11,11 @@ pub mod RunProgress
 pub mod RunOutcome
 pub mod Failures
 pub mod Beginning
-pub mod Headline
-pub mod Completeness
 pub mod OverStore
 pub mod Checking
 pub mod Generating
+pub mod Headline
+pub mod Completeness
 pub mod Served
 pub mod Continued
 pub mod inside

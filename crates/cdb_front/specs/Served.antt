@@ -18,11 +18,11 @@ use Rattle.cdb_model.specs.Sessions.{session_of}
 use Rattle.cdb_model.specs.Text.{Text}
 use Rattle.cdb_model.specs.TileFile.{tile_bytes}
 use Rattle.cdb_model.specs.declared.session.Session.{Session}
-use Rattle.cdb_front.specs.Headline.{Devices, Life, Goes}
+use Rattle.cdb_front.specs.Headline.{Devices, Life, ReadsScript}
 use Rattle.cdb_front.specs.RunProgress.{Holds}
 
--- a line asks for a tile in an open session, and this holds of the tile and of the sources of the publications up to the
--- session's version
+-- a line asks for a tile in an open session, and this holds of the tile and of the sources of the publications up to
+-- the session's version
 pub record AsksFor (s : KnownState) (command : Command) (P : List Source → Tile → Type 0) : Type 0 where
   pub id : ℕ
   pub tile : Tile
@@ -49,6 +49,6 @@ EachServed Has old (late most ∷ items) answers new run = EachServed Has run.mi
 
 -- each tile that a run over a store serves
 abbrev pub ServesTiles : Devices → Type 0
-ServesTiles v = (life : Life v) (base : Base) (goes : Goes v life (Some base))
+ServesTiles v = (life : Life v) (base : Base) (goes : ReadsScript v life (Some base))
     → EachServed (Holds v.shelf_tells (v.files life.shelf)) (start_at base.list)
     goes.outcome.transcript.items goes.outcome.transcript.answers goes.outcome.run.state goes.outcome.run.run

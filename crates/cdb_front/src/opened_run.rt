@@ -1,7 +1,7 @@
 ghost use Rattle.std.specs.Prelude.{◌≡◌, ◌≢◌, ◌+◌, ◌≤◌, ◌<◌, ◌^◌, length, IfSome};
 ghost use Rattle.cdb_model.specs.Causes.{Rose};
 ghost use Rattle.cdb_front.specs.Failures.{WritesOnce};
-ghost use Rattle.cdb_front.specs.Headline.{MeetsOf};
+ghost use Rattle.cdb_front.specs.Headline.{MeetsOf, script};
 ghost use Rattle.cdb_front.specs.RunOutcome.{QuitsInTime, SaysStore, HasNoStore, status_of};
 
 use crate::end_run::end;
@@ -40,7 +40,7 @@ pub fn run_over<D: Disk, H: Shelf, I: Input, O: Output>(
 ) -> Status
     ensures outcome { MeetsOf D.tells D.state D.clock D.since D.fault_count H.tells H.files H.fault_count I.left
         I.failed_at I.fault_count O.written disk.old disk.new shelf.old shelf.new input.old input.new output.old
-        output.new most result }
+        output.new (script most) result }
     ensures in_time { IfSome (I.left input.old) (λ bytes. length bytes < 2 ^ 32 → result ≢ Status.TooLong) }
     ensures quits { IfSome (I.left input.old) (λ bytes. QuitsInTime bytes → result ≢ Status.TooLong) }
     ensures input_failed { result ≡ Status.InputFault → Rose (I.fault_count input.old) (I.fault_count input.new) }

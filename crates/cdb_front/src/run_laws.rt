@@ -10,8 +10,9 @@ use crate::input::Input;
 use crate::output::Output;
 use cdb_files::{Disk, Shelf};
 
-/// Any number of stops and reopenings: what the last run opens is the first store followed, run by
-/// run, by the first of the publications begun, with every acknowledged one.
+/// Any number of stops and reopenings, of runs of any mode: what the last run opens is the first store
+/// followed, run by run, by the first of the publications begun, with every acknowledged one. What a run
+/// is to meet is what `cdb_run` ensures of it: `outcome`, `checks` or `fills`, by its mode.
 pub fn headline<D: Disk, H: Shelf, I: Input, O: Output>(disk: &D, shelf: &H, input: &I, output: &O)
     ensures { Headline (devices_of D.tells D.state D.clock D.since D.fault_count H.tells H.files H.fault_count I.left
         I.failed_at I.fault_count O.written) }

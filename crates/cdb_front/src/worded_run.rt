@@ -6,7 +6,7 @@ ghost use Rattle.cdb_model.specs.Causes.{Rose};
 ghost use Rattle.cdb_front.specs.Checking.{Checks};
 ghost use Rattle.cdb_front.specs.Failures.{WritesOnce};
 ghost use Rattle.cdb_front.specs.Generating.{Fills};
-ghost use Rattle.cdb_front.specs.Headline.{MeetsOf};
+ghost use Rattle.cdb_front.specs.Headline.{MeetsOf, script};
 ghost use Rattle.cdb_front.specs.RunOutcome.{SaysStore, TurnsAway};
 
 use crate::checked_run::check_over;
@@ -53,7 +53,7 @@ pub fn cdb_run<D: Disk, H: Shelf, I: Input, O: Output>(
     ensures outcome { (options : given) → options_of (map (λ s. s.now) words.now) ≡ Some options → options.mode ≡ Run
         → MeetsOf D.tells D.state D.clock D.since D.fault_count H.tells H.files H.fault_count I.left
         I.failed_at I.fault_count O.written disk.old disk.new shelf.old shelf.new input.old input.new output.old
-        output.new options.background result }
+        output.new (script options.background) result }
     ensures checks { (options : given) → options_of (map (λ s. s.now) words.now) ≡ Some options → options.mode ≡ Check
         → Checks D.tells D.state D.clock D.since disk.old disk.new (O.written output.old) (O.written output.new)
         result }
