@@ -71,7 +71,8 @@ pub submit_gives : (old new : Held) (source : Source) (outcome : Result ℕ Subm
     → SpellsSource words source
     → Leads (InlineLineIn (store_kind w) s words (meant said reply)) (ChangesAlike old new w s)
 submit_gives old new source (Ok n) said reply number next same ok err w s words shows is_ready spelled =
-    subst (λ (a : Answer). Leads (InlineLineIn (store_kind w) s words (meant a reply)) (ChangesAlike old new w s)) (sym ok)
+    subst (λ (a : Answer). Leads (InlineLineIn (store_kind w) s words (meant a reply)) (ChangesAlike old new w s))
+    (sym ok)
     (leads_more old new w s source (InlineLineIn (store_kind w) s words (machine.source n)) shows next
     record {
       ready = is_ready;
@@ -81,8 +82,10 @@ submit_gives old new source (Ok n) said reply number next same ok err w s words 
       next = refl;
     })
 submit_gives old new source (Err e) said reply number next same ok err w s words shows is_ready spelled =
-    subst (λ (a : Answer). Leads (InlineLineIn (store_kind w) s words (meant a reply)) (ChangesAlike old new w s)) (sym err)
-    (subst (λ (h : Held). Leads (InlineLineIn (store_kind w) s words machine.memory) (ChangesAlike old h w s)) (sym same)
+    subst (λ (a : Answer). Leads (InlineLineIn (store_kind w) s words (meant a reply)) (ChangesAlike old new w s))
+    (sym err)
+    (subst (λ (h : Held). Leads (InlineLineIn (store_kind w) s words machine.memory) (ChangesAlike old h w s))
+    (sym same)
     (leads_same old w s (InlineLineIn (store_kind w) s words machine.memory) shows (is_ready.0, refl)))
 
 pub submit_loads : (old new : Held) (source : Source) (outcome : Result ℕ SubmitRefused) (said : Answer)
@@ -96,7 +99,8 @@ pub submit_loads : (old new : Held) (source : Source) (outcome : Result ℕ Subm
     → Leads (SourceLineIn (store_kind w) s words content (meant said reply)) (ChangesAlike old new w s)
 submit_loads old new source (Ok n) said reply number next same ok err w s words content bytes shows is_ready
     image spelled =
-    subst (λ (a : Answer). Leads (SourceLineIn (store_kind w) s words content (meant a reply)) (ChangesAlike old new w s))
+    subst (λ (a : Answer). Leads (SourceLineIn (store_kind w) s words content (meant a reply))
+    (ChangesAlike old new w s))
     (sym ok)
     (leads_more old new w s source (SourceLineIn (store_kind w) s words content (machine.source n)) shows next
     record {
@@ -112,7 +116,8 @@ submit_loads old new source (Ok n) said reply number next same ok err w s words 
     })
 submit_loads old new source (Err e) said reply number next same ok err w s words content bytes shows is_ready
     image spelled =
-    subst (λ (a : Answer). Leads (SourceLineIn (store_kind w) s words content (meant a reply)) (ChangesAlike old new w s))
+    subst (λ (a : Answer). Leads (SourceLineIn (store_kind w) s words content (meant a reply))
+    (ChangesAlike old new w s))
     (sym err)
     (subst (λ (h : Held). Leads (SourceLineIn (store_kind w) s words content machine.memory) (ChangesAlike old h w s))
     (sym same)
@@ -146,7 +151,8 @@ ready_loads tells files held error said is loads w s words shows =
 -- the posts of a line made no source
 inline_refused : (w : Which) (s : StateIn (store_kind w)) (words : InlineSource) (error : InlineError)
     → IsReadyIn (store_kind w) s
-    → (error ≡ inline.Range → SpellsNone (SpellsSource words)) → InlineLineIn (store_kind w) s words (inline_answer error) s
+    → (error ≡ inline.Range → SpellsNone (SpellsSource words))
+    → InlineLineIn (store_kind w) s words (inline_answer error) s
 inline_refused w s words inline.Memory is_ready none = (is_ready.0, refl)
 inline_refused w s words inline.Range is_ready none = (is_ready, none refl, refl)
 
@@ -208,7 +214,8 @@ pub made_loads : (tells : Type 0) (files : FileMap) (old new : Held) (words : Fi
     (answer : machine.Answer)
     → LoadOutcome tells (files words.path) words (Ok source)
     → ((w : Which) (s : StateIn (store_kind w)) → Shows old w s → IsReadyIn (store_kind w) s)
-    → ((w : Which) (s : StateIn (store_kind w)) (words : FileSource) (content : Content) (bytes : List ℕ) → Shows old w s
+    → ((w : Which) (s : StateIn (store_kind w)) (words : FileSource) (content : Content) (bytes : List ℕ)
+    → Shows old w s
     → IsReadyIn (store_kind w) s
     → HasImage content bytes → SpellsLoaded words bytes source
     → Leads (SourceLineIn (store_kind w) s words content answer) (ChangesAlike old new w s))

@@ -124,7 +124,8 @@ broken : {tells : Type 0} {e : RunStart} (read unread : Text) (left left' : Opti
     (shelf disk : ℕ) (Now : Sight)
     → Consumes left left' (read ++ unread) → length (read ++ unread) ≤ 2 ^ 32 → length unread ≤ 4096
     → (b : Broken tells e read written shelf disk Now)
-    → EndsScript OutputFault left' read unread b.rest → StopsScript tells e shelf disk left left' written Now OutputFault
+    → EndsScript OutputFault left' read unread b.rest
+    → StopsScript tells e shelf disk left left' written Now OutputFault
 broken read unread left left' written shelf disk Now taken few small b finishes =
     let t = b.torn in
     record {
@@ -236,7 +237,8 @@ pub stops_done : {tells : Type 0} {e : RunStart} (P : Text → Type 0) {left lef
     (written' : Option (List ℕ)) (shelf' disk' : ℕ) (New : Sight)
     → (r : Reading tells e left left' written shelf disk Old kept taken) → Consumes left' left'' [] → taken < 2 ^ 32
     → IsAtEnd left''
-    → Answered tells e P r.read written' shelf' disk' New → StopsScript tells e shelf' disk' left left'' written' New Done
+    → Answered tells e P r.read written' shelf' disk' New
+    → StopsScript tells e shelf' disk' left left'' written' New Done
 stops_done P {left = left} {left' = left'} left'' {taken = taken} written' shelf' disk' New r more room end a =
     let p = at_end left left' left'' r.read taken r.count r.input more (omega (arith, room)) in
     done P r.read [] left left'' written' shelf' disk' New p.0 p.1 (omega arith) a
@@ -247,7 +249,8 @@ pub stops_broken_at_end : {tells : Type 0} {e : RunStart} {left left' : Option (
     (written' : Option (List ℕ)) (shelf' disk' : ℕ) (New : Sight)
     → (r : Reading tells e left left' written shelf disk Old kept taken) → Consumes left' left'' [] → taken < 2 ^ 32
     → IsAtEnd left''
-    → Broken tells e r.read written' shelf' disk' New → StopsScript tells e shelf' disk' left left'' written' New OutputFault
+    → Broken tells e r.read written' shelf' disk' New
+    → StopsScript tells e shelf' disk' left left'' written' New OutputFault
 stops_broken_at_end {left = left} {left' = left'} left'' {taken = taken} written' shelf' disk' New r more room end b =
     let p = at_end left left' left'' r.read taken r.count r.input more (omega (arith, room)) in
     broken r.read [] left left'' written' shelf' disk' New p.0 p.1 (omega arith) b

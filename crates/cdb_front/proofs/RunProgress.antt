@@ -276,7 +276,8 @@ silent {tells = tells} {e = e} P {written = written} {shelf = shelf} {disk = dis
       last = last;
     }
 
-pub line_blank : {tells : Type 0} {e : RunStart} {read : Text} {written : Option (List ℕ)} {shelf disk : ℕ} {Now : Sight}
+pub line_blank : {tells : Type 0} {e : RunStart} {read : Text} {written : Option (List ℕ)}
+    {shelf disk : ℕ} {Now : Sight}
     {kept : Option (List ℕ)}
     → ((rest : Text) → kept ≡ kept_of rest → line_command rest ≡ said.blank_line)
     → RunSoFar tells e read written shelf disk Now kept → Answered tells e IsNotQuit read written shelf disk Now
@@ -545,7 +546,8 @@ Cut-feed bytes lines rest cut =
 pub byte_kept : {tells : Type 0} {e : RunStart} {read : Text} (byte : ℕ) {written : Option (List ℕ)} {shelf disk : ℕ}
     {Now : Sight} {kept : Option (List ℕ)} (new : Option (List ℕ))
     → ((line : Text) → kept ≡ kept_of line → new ≡ kept_of (line ++ byte ∷ [])) → byte ≢ 10
-    → RunSoFar tells e read written shelf disk Now kept → RunSoFar tells e (read ++ byte ∷ []) written shelf disk Now new
+    → RunSoFar tells e read written shelf disk Now kept
+    → RunSoFar tells e (read ++ byte ∷ []) written shelf disk Now new
 byte_kept {read = read} byte new pushed other s =
     record {
       lines = s.lines;

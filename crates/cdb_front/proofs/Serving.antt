@@ -69,7 +69,8 @@ module _ (Has : Text → Content → Type 0) (old new : KnownState) (command : C
   turn_served machine.missing turn = missing_served turn.event turn.meant turn.step
   turn_served _ turn = tt
 
-each_served : (Has : Text → Content → Type 0) (old : KnownState) (items : List Item) (answers : List Answer) (new : KnownState)
+each_served : (Has : Text → Content → Type 0) (old : KnownState) (items : List Item) (answers : List Answer)
+    (new : KnownState)
     → (r : Run Has old items answers new) → EachServed Has old items answers new r
 each_served Has old [] answers new r = tt
 each_served Has old (run.line command ∷ items) answers new r =

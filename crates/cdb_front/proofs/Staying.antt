@@ -79,7 +79,8 @@ load_turn k tells files l words answer is led =
 module _ {D : Type 0} (tells : Type 0) (clock count : D → ℕ) (since : D → ℕ → FileMap → Type 0) (state : D → disk.State)
     (origin : Origin) where
   -- a call without a disk leads on where it changes the engine and the state alike
-  pub stays_on : (d : D) (old new : Held) (w : Which) (s : StateIn (store_kind w)) (Step : StateIn (store_kind w) → Type 0)
+  pub stays_on : (d : D) (old new : Held) (w : Which) (s : StateIn (store_kind w))
+      (Step : StateIn (store_kind w) → Type 0)
       → Stays tells clock count since state origin d old w s → (Shows old w s → Leads Step (ChangesAlike old new w s))
       → Leads Step (Stays tells clock count since state origin d new w)
   stays_on d old new w s Step stays on =
@@ -91,7 +92,8 @@ module _ {D : Type 0} (tells : Type 0) (clock count : D → ℕ) (since : D → 
       }
 
   -- or where it leaves both
-  pub stays_told : (d : D) (held : Held) (w : Which) (s : StateIn (store_kind w)) (Step : StateIn (store_kind w) → Type 0)
+  pub stays_told : (d : D) (held : Held) (w : Which) (s : StateIn (store_kind w))
+      (Step : StateIn (store_kind w) → Type 0)
       → Stays tells clock count since state origin d held w s → (Shows held w s → Step s)
       → Leads Step (Stays tells clock count since state origin d held w)
   stays_told d held w s Step stays on =

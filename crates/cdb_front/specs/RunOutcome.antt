@@ -132,7 +132,8 @@ Unwritten tells e status items answers Now w s =
     Now w s × EndsUnwritten status (store_kind w) (Holds tells e.files) (first_state e w) items answers s
 
 -- the script ended: a run, where the store is known, and one whatever the disk holds, each to a state of now
-pub record StopsScript (tells : Type 0) (e : RunStart) (shelf disk : ℕ) (left left' written : Option (List ℕ)) (Now : Sight)
+pub record StopsScript (tells : Type 0) (e : RunStart) (shelf disk : ℕ)
+    (left left' written : Option (List ℕ)) (Now : Sight)
     (status : Status) : Type 0 where
   pub transcript : Transcript e shelf disk left left' written status
   pub run : Runs (Holds tells e.files) e.from transcript.items transcript.answers
@@ -249,8 +250,8 @@ pub record HasRecords (present : FileMap) : Type 0 where
   pub records : List Record
   pub opened : AreOpened present left records
 
--- where the disk tells: no store was opened since the files that were there are none, and only leftovers of recovery are
--- gone from them; and a status that comes after opening comes where they are one
+-- where the disk tells: no store was opened since the files that were there are none, and only leftovers of recovery
+-- are gone from them; and a status that comes after opening comes where they are one
 abbrev pub SaysStore : Type 0 → FileMap → FileMap → Status → Type 0
 SaysStore tells present now (NotAStore version place) = tells → IsNoStore present now version place
 SaysStore tells present now Memory = Unit {0}
@@ -267,7 +268,8 @@ pub record Outcome (tells : Type 0) (e : RunStart) (shelf faults : ℕ) (left le
   pub status : Status
   pub written : Option (List ℕ)
   pub transcript : Transcript e shelf faults left left' written status
-  pub run : EndsFrom (Holds tells e.files) e.from status transcript.items transcript.answers transcript.wrote e.opened now
+  pub run : EndsFrom (Holds tells e.files)
+      e.from status transcript.items transcript.answers transcript.wrote e.opened now
       Since d
   pub order : Ordered (Holds tells e.files) e.start transcript.items transcript.answers
       (EndsUnwritten status any_store (Holds tells e.files) e.start transcript.items transcript.answers)

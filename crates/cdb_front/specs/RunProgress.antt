@@ -57,7 +57,8 @@ abbrev pub Holds : Type 0 → FileMap → Text → Content → Type 0
 Holds tells files path content = tells → content ≡ files path
 
 -- where the store is known, the answers are those of a run from its list over these items, to a state of now
-abbrev pub Runs : (Text → Content → Type 0) → Option Base → List Item → List machine.Answer → (KnownState → Type 0) → Type 0
+abbrev pub Runs : (Text → Content → Type 0) → Option Base → List Item → List machine.Answer
+    → (KnownState → Type 0) → Type 0
 Runs Has None items answers Now = Unit {0}
 Runs Has (Some base) items answers Now = Leads (Run Has (start_at base.list) items answers) Now
 
@@ -116,7 +117,8 @@ pub record Torn (tells : Type 0) (e : RunStart) (items : List Item) (written : O
   pub appended : Appends e.written written (texts_of whole ++ part)
 
 -- whole lines were read and answered, and the beginning of the next line is kept
-pub record RunSoFar (tells : Type 0) (e : RunStart) (read : Text) (written : Option (List ℕ)) (shelf disk : ℕ) (Now : Sight)
+pub record RunSoFar (tells : Type 0) (e : RunStart) (read : Text) (written : Option (List ℕ))
+    (shelf disk : ℕ) (Now : Sight)
     (kept : Option (List ℕ)) : Type 0 where
   pub lines : List Text
   pub rest : Text
@@ -173,7 +175,8 @@ pub record UpTo (piece : Text) (X : Text → Type 0) : Type 0 where
   pub joined : piece ≡ front ++ 10 ∷ back
   pub reached : X front
 
-abbrev pub TakesPiece : Type 0 → RunStart → Fed → Text → Text → Option (List ℕ) → ℕ → ℕ → Sight → Option (List ℕ) → Type 0
+abbrev pub TakesPiece : Type 0 → RunStart → Fed → Text → Text → Option (List ℕ) → ℕ → ℕ → Sight
+    → Option (List ℕ) → Type 0
 TakesPiece tells e fed.More read piece written shelf disk Now kept = RunSoFar tells e (read ++ piece) written
     shelf disk Now kept
 TakesPiece tells e fed.Quit read piece written shelf disk Now kept = UpTo piece

@@ -69,9 +69,11 @@ fn answer<D: Disk, H: Shelf, E: StoreCalls<D>>(
     asked: Asked,
 ) -> Answer
     requires answered { IsAnswered asked }
-    ensures turn { (w : Which) (origin : Origin) (s : StateIn (store_kind w)) (command : Command) → SaysAsked asked command
+    ensures turn { (w : Which) (origin : Origin) (s : StateIn (store_kind w)) (command : Command)
+        → SaysAsked asked command
         → E.stays engine.old disk.old origin w s
-        → Leads (TurnIn (store_kind w) (Holds H.tells (H.files shelf.old)) s command (meant result (E.bytes engine.new)))
+        → Leads (TurnIn (store_kind w) (Holds H.tells (H.files shelf.old)) s command
+        (meant result (E.bytes engine.new)))
         (E.stays engine.new disk.new origin w) }
     ensures length { HasLength result (E.bytes engine.new) }
     ensures files { H.files shelf.new ≡ H.files shelf.old }

@@ -42,7 +42,8 @@ fn after_step(outcome: Result<Progress, AdvanceError>) -> Option<Answer>
 /// the publication goes on where none says otherwise.
 pub fn make_steps<D: Disk, E: StoreCalls<D>>(engine: &mut E, disk: &mut D, most: u32) -> Answer
     ensures makes { (w : Which) (origin : Origin) (s : StateIn (store_kind w)) → E.stays engine.old disk.old origin w s
-        → Leads (MakesIn (store_kind w) most s (meant result (E.bytes engine.new))) (E.stays engine.new disk.new origin w) }
+        → Leads (MakesIn (store_kind w) most s (meant result (E.bytes engine.new)))
+        (E.stays engine.new disk.new origin w) }
     ensures reply { E.bytes engine.new ≡ E.bytes engine.old }
     ensures bare { IsBare result }
     ensures quiet { IsQuiet result }
@@ -62,7 +63,8 @@ pub fn make_steps<D: Disk, E: StoreCalls<D>>(engine: &mut E, disk: &mut D, most:
 
 /// Answers a line that asks for so many steps.
 pub fn hasten<D: Disk, E: StoreCalls<D>>(engine: &mut E, disk: &mut D, most: u32) -> Answer
-    ensures hastens { (w : Which) (origin : Origin) (s : StateIn (store_kind w)) → E.stays engine.old disk.old origin w s
+    ensures hastens { (w : Which) (origin : Origin) (s : StateIn (store_kind w))
+        → E.stays engine.old disk.old origin w s
         → Leads (StepLineIn (store_kind w) s most (meant result (E.bytes engine.new)))
         (E.stays engine.new disk.new origin w) }
     ensures bare { IsBare result }
@@ -86,8 +88,10 @@ pub fn hasten<D: Disk, E: StoreCalls<D>>(engine: &mut E, disk: &mut D, most: u32
 
 /// Answers a line that asks for all steps that are left.
 pub fn complete<D: Disk, E: StoreCalls<D>>(engine: &mut E, disk: &mut D) -> Answer
-    ensures completes { (w : Which) (origin : Origin) (s : StateIn (store_kind w)) → E.stays engine.old disk.old origin w s
-        → Leads (StepAllLineIn (store_kind w) s (meant result (E.bytes engine.new))) (E.stays engine.new disk.new origin w) }
+    ensures completes { (w : Which) (origin : Origin) (s : StateIn (store_kind w))
+        → E.stays engine.old disk.old origin w s
+        → Leads (StepAllLineIn (store_kind w) s (meant result (E.bytes engine.new)))
+        (E.stays engine.new disk.new origin w) }
     ensures bare { IsBare result }
     ensures quiet { IsQuiet result }
     ensures later { D.fault_count disk.old ≤ D.fault_count disk.new }

@@ -1,4 +1,5 @@
--- Inside the crate: a run ends at its first call of the input or the output that fails: no further one follows, as the count of failures
+-- Inside the crate: a run ends at its first call of the input or the output that fails: no further one follows, as the
+-- count of failures
 use Rattle.std.specs.Prelude.{◌≡◌, ℕ}
 use Rattle.cdb_front.specs.declared.read_turn.Turned.{Turned}
 use Rattle.cdb_front.specs.declared.read_turn.Turned.TheVariants.{Taken, Stopped}

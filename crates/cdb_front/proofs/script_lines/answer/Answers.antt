@@ -9,7 +9,8 @@ use Rattle.cdb_front.proofs.script_lines.answer.Goals as goal
 
 pub returns-in-Line-clause-turn : goal.returns-in-Line-clause-turn
 returns-in-Line-clause-turn g c = λ w origin s command says stays.
-    line_turn (store_kind w) (Holds g.H.Shelf.tells (g.H.Shelf.files c.args.shelf.now)) c.args.asked c.in-Line.line command
+    line_turn (store_kind w) (Holds g.H.Shelf.tells (g.H.Shelf.files c.args.shelf.now))
+    c.args.asked c.in-Line.line command
     (meant c.answer_line.result (g.E.StoreCalls.bytes c.answer_line.new.engine)) c.in-Line.is says
     (c.answer_line.ensures.turn w origin s stays)
 

@@ -5,7 +5,8 @@ use Rattle.cdb_front.proofs.steps.hasten.Goals as goal
 
 pub returns-clause-hastens : goal.returns-clause-hastens
 returns-clause-hastens g c = λ w origin s stays.
-    hasten_makes (store_kind w) (g.E.StoreCalls.stays c.make_steps.new.engine c.make_steps.new.disk origin w) s c.args.most
+    hasten_makes (store_kind w) (g.E.StoreCalls.stays c.make_steps.new.engine c.make_steps.new.disk origin w)
+    s c.args.most
     (meant c.make_steps.result (g.E.StoreCalls.bytes c.make_steps.new.engine))
     (c.if-halted.ensures c.args.disk.now w origin s stays) (c.if-not-going.ensures c.args.disk.now w origin s stays)
     c.if-most-eq0.false (c.make_steps.ensures.makes w origin s stays)

@@ -9,7 +9,8 @@ loop-init g c = record {
   partway = λ w origin s stays.
       let Now = g.E.StoreCalls.stays c.args.engine.now c.args.disk.now origin w in
       let e : c.args.most ≡ c.args.most - 0 = omega arith in
-      subst (λ (n : ℕ). Partway (store_kind w) c.args.most n s Now) e (partway_begins (store_kind w) c.args.most s Now stays);
+      subst (λ (n : ℕ). Partway (store_kind w) c.args.most n s Now) e
+      (partway_begins (store_kind w) c.args.most s Now stays);
   reply = refl;
   later = omega arith;
 }

@@ -34,7 +34,8 @@ returns-in-Source-clause-turn g c = λ w origin s stays.
 
 pub returns-in-Publish-clause-turn : goal.returns-in-Publish-clause-turn
 returns-in-Publish-clause-turn g c = λ w origin s stays.
-    calls_turn (store_kind w) (Holds g.H.Shelf.tells (g.H.Shelf.files c.args.shelf.now)) c.args.line machine.publish_line
+    calls_turn (store_kind w) (Holds g.H.Shelf.tells (g.H.Shelf.files c.args.shelf.now))
+    c.args.line machine.publish_line
     (meant c.publish.result c.publish.new.engine.reply)
     (ap (λ (x : Line). said.said (sentence_in x)) c.in-Publish.is)
     (c.publish.ensures.begins w origin s stays)
@@ -68,7 +69,8 @@ returns-in-Close-clause-turn g c = λ w origin s stays.
 
 pub returns-in-Versions-clause-turn : goal.returns-in-Versions-clause-turn
 returns-in-Versions-clause-turn g c = λ w origin s stays.
-    calls_turn (store_kind w) (Holds g.H.Shelf.tells (g.H.Shelf.files c.args.shelf.now)) c.args.line machine.versions_line
+    calls_turn (store_kind w) (Holds g.H.Shelf.tells (g.H.Shelf.files c.args.shelf.now))
+    c.args.line machine.versions_line
     (meant c.tell.result c.args.self.now.reply)
     (ap (λ (x : Line). said.said (sentence_in x)) c.in-Versions.is)
     (stays_told g.D.Disk.tells g.D.Disk.clock g.D.Disk.fault_count g.D.Disk.since g.D.Disk.state origin c.args.disk.now
