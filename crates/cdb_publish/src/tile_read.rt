@@ -1,10 +1,10 @@
 //! The values of a tile from its file.
-ghost use Rattle.std.specs.Prelude.{◌≡◌, ◌+◌, ◌*◌, ◌/◌, ◌≤◌, ◌==◌, ◌||◌, IsTrue, ◌∷◌, [], List, Some, length, OnOk};
+ghost use Rattle.std.specs.Prelude.{◌≡◌, ◌+◌, ◌*◌, ◌≤◌, ◌∷◌, [], List, Some, length, OnOk};
 ghost use Rattle.std.specs.Prelude.{IfOk, IfErr, IfSome};
 ghost use Rattle.cdb_grid.specs.Tiles.{tile_side};
 ghost use Rattle.cdb_source.specs.declared.source.Source as given;
 ghost use Rattle.cdb_model.specs.Names.{path};
-ghost use Rattle.cdb_model.specs.TileFile.{bits_of, tile_bytes};
+ghost use Rattle.cdb_model.specs.TileFile.{tile_bytes};
 ghost use Rattle.cdb_files.specs.Moments.{Rests};
 ghost use Rattle.cdb_cut.specs.OneTile.{IsFrameOf};
 ghost use Rattle.cdb_tiff_write.specs.Rasters.{tile_size};
