@@ -22,4 +22,5 @@ pub record TellsStep (Tells : Type 0) (present : FileMap) (work : Publication) (
   pub sizes : (w : Work) → work.work ≡ Some w → 1 < left_of work
       → SizesTold Tells present w.plan records w.done before after made
   pub last : left_of work ≡ 1 → IfErr made (λ e. e ≡ Fault)
+  pub last_reads : left_of work ≡ 1 → after ≡ before
   pub damage : IfErr made IsDamage

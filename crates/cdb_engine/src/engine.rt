@@ -144,6 +144,7 @@ impl Engine {
     /// call of the disk failed, and `Damaged` exactly where a file that the step reads isn't there or has
     /// another size than its form gives, with the sizes of the first such file: the publication is given
     /// up then, and the writer halted at the count of failed calls that the disk tells. It takes no memory.
+    /// A step that is refused makes no call of the disk, and the last step reads no file.
     pub fn step<D: Disk>(&mut self, disk: &mut D) -> Result<Progress, AdvanceError>
         ensures step { (w : Which) (origin : Origin) (s : StateIn (store_kind w))
             → Stays D.tells D.clock D.fault_count D.since D.state origin disk.old self.old w s
@@ -154,6 +155,7 @@ impl Engine {
         ensures sizes { IfSome self.old.work (λ work. TellsStep D.tells (D.state disk.old).present work
             self.old.chain.records (D.read_count disk.old) (D.read_count disk.new) result) }
         ensures other { IfErr result StepFindsOther }
+        ensures idle { self.old.work ≡ None → disk.new ≡ disk.old }
         ensures halt { HaltsBy result self.old.halted self.new.halted (D.fault_count disk.new) }
         ensures reply { self.new.reply ≡ self.old.reply }
         ensures kept { self.new.kept ≡ self.old.kept }

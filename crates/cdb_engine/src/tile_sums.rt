@@ -1,5 +1,5 @@
 //! The tiles of the newest version are asked for, and their values are summed.
-ghost use Rattle.std.specs.Prelude.{◌≡◌, ◌≤◌, pos, negsuc, ◌≤ℤ◌, List, length, ℕ, [], ◌∷◌, ◌*◌, All, IfOk, IfErr};
+ghost use Rattle.std.specs.Prelude.{◌≡◌, ◌≢◌, ◌≤◌, pos, negsuc, ◌≤ℤ◌, List, length, ℕ, [], ◌∷◌, ◌*◌, All, IfOk, IfErr};
 ghost use Rattle.std.specs.Prelude.{Err};
 ghost use Rattle.cdb_source.specs.declared.source.Source as sources;
 ghost use Rattle.cdb_source.specs.declared.limits.TheConstants.{MOST_LOAD};
@@ -11,6 +11,7 @@ ghost use Rattle.cdb_model.specs.Publications.{sources_of, sources_up_to, heads_
 ghost use Rattle.cdb_model.specs.Stores.{Which, store_kind, known};
 ghost use Rattle.cdb_model.specs.Transitions.{StateIn};
 ghost use Rattle.cdb_source.specs.Reached.{Reached};
+ghost use Rattle.cdb_tiff_write.specs.Rasters.{tile_size};
 ghost use Rattle.cdb_engine.specs.Stays.{Stays};
 ghost use Rattle.cdb_engine.specs.Tracks.{Origin};
 ghost use Rattle.cdb_engine.specs.OtherSizes.{TileFindsOther, FillFindsOther};
@@ -32,6 +33,7 @@ use cdb_tiff_write::{bits, posts_of, tile_size};
 fn sum_of_file(bytes: &[u8], tile: &Tile, frame: &mut [i16]) -> i64
     requires frame { length frame.old ≡ MOST_TILE_VALUES }
     ensures sum { (ss : List sources.Source) → bytes.now ≡ tile_bytes ss tile.now → result ≡ tile_sum ss tile.now }
+    ensures none { length bytes.now ≢ tile_size tile.now → result ≡ pos 0 }
     ensures least { negsuc 34359738367 ≤ℤ result }
     ensures most { result ≤ℤ pos 34359738368 }
     ensures frame { length frame.new ≡ length frame.old }

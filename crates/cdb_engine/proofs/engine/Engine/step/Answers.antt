@@ -158,6 +158,7 @@ returns-clause-sizes g c =
       answer = c.settle-work.ensures.answer;
       sizes = c.step-made.ensures.sizes;
       last = c.step-made.ensures.last_error;
+      last_reads = c.step-made.ensures.last_reads;
       damage = c.step-made.ensures.damage;
     } in
     subst Told c.self.view_is (subst (λ (o : Option publish.Publication). IfSome o Here) (sym has) told)
@@ -165,3 +166,9 @@ returns-clause-sizes g c =
 pub returns-clause-other : goal.returns-clause-other
 returns-clause-other g c =
     step_other c.step-made.result c.settle-work.result.answer c.settle-work.ensures.answer c.step-made.ensures.damage
+
+pub returns-clause-idle : goal.returns-clause-idle
+returns-clause-idle g c = λ none.
+    let is : Some c.in-Some.work ≡ None =
+    sym c.in-Some.is ∙ c.take.ensures.value ∙ ap (λ (h : Held). h.work) c.self.view_is ∙ none in
+    absurd (cc)
