@@ -8,6 +8,8 @@ mod built;
 #[cfg(test)]
 mod damage;
 #[cfg(test)]
+mod drawn;
+#[cfg(test)]
 mod failures;
 #[cfg(test)]
 mod files;

@@ -77,10 +77,10 @@ pub fn run_in_pieces<D: Disk>(
 }
 
 /// Runs a script with these words over the disk and the shelf.
-pub fn run_with(
+pub fn run_with<D: Disk>(
     alloc: Global,
     words: &[&str],
-    disk: &mut MemDisk,
+    disk: &mut D,
     shelf: &mut MemShelf,
     script: &[u8],
 ) -> Result<(Status, MemOutput), Fail> {
@@ -90,13 +90,23 @@ pub fn run_with(
     Ok((status, output))
 }
 
+/// Runs a script with these words over the disk and an empty shelf.
+pub fn run_worded<D: Disk>(
+    alloc: Global,
+    words: &[&str],
+    disk: &mut D,
+    script: &[u8],
+) -> Result<(Status, MemOutput), Fail> {
+    let mut shelf = MemShelf::new(BTreeMap::new(alloc), Vec::new(alloc));
+    run_with(alloc, words, disk, &mut shelf, script)
+}
+
 /// The words of a run that checks the files of its store.
 const CHECK: [&str; 2] = ["--mode", "check"];
 
 /// Checks the files of the store of a disk.
-pub fn check(alloc: Global, disk: &mut MemDisk) -> Result<(Status, MemOutput), Fail> {
-    let mut shelf = MemShelf::new(BTreeMap::new(alloc), Vec::new(alloc));
-    run_with(alloc, &CHECK, disk, &mut shelf, b"")
+pub fn check<D: Disk>(alloc: Global, disk: &mut D) -> Result<(Status, MemOutput), Fail> {
+    run_worded(alloc, &CHECK, disk, b"")
 }
 
 /// Whether a run over the disk ends well and writes these answers.
