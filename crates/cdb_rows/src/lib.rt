@@ -26,6 +26,8 @@ mod raster;
 #[cfg(test)]
 mod refusals;
 #[cfg(test)]
+mod restarts;
+#[cfg(test)]
 mod script;
 #[cfg(test)]
 mod stops;

@@ -9,7 +9,7 @@ use std::alloc::Global;
 use std::test::Fail;
 
 /// What a crash may leave.
-const PICKS: [Pick; 3] = [Pick::Newest, Pick::Oldest, Pick::Torn];
+pub const PICKS: [Pick; 3] = [Pick::Newest, Pick::Oldest, Pick::Torn];
 
 /// A first publication.
 const FIRST: &[u8] = b"inline elev -10 46 7 1 1 1 1 500\npublish\nstep all\n";
