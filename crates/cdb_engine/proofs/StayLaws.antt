@@ -10,8 +10,7 @@ use Rattle.cdb_files.specs.Disk as disk
 use Rattle.cdb_chain.specs.Versions.{Versions}
 use Rattle.cdb_publish.specs.declared.publication.Publication as publish
 use Rattle.cdb_engine.specs.Held.{Held}
-use Rattle.cdb_engine.specs.StoreAnswers.{steps_left}
-use Rattle.cdb_engine.specs.inside.StoreAnswers.{LeftIn}
+use Rattle.cdb_engine.specs.StoreAnswers.{LeftIn, steps_left}
 use Rattle.cdb_engine.specs.Stays.{bare_of, going_of, Stays, Shows, ChangesAlike}
 use Rattle.cdb_engine.specs.Tracks.{Works, Tracks, Origin, Follows, Leads}
 

@@ -7,8 +7,7 @@ use Rattle.cdb_model.specs.Stores.{Kind, Which, known, any, store_kind}
 use Rattle.cdb_model.specs.Transitions.{StateIn, GoingIn, GivenUpIn}
 use Rattle.cdb_publish.specs.declared.errors.Progress.{Progress}
 use Rattle.cdb_publish.specs.declared.errors.Progress.TheVariants as progress
-use Rattle.cdb_engine.specs.StoreAnswers.{TriesIn, advance_answer}
-use Rattle.cdb_engine.specs.inside.StoreAnswers.{LeftIn}
+use Rattle.cdb_engine.specs.StoreAnswers.{LeftIn, TriesIn, advance_answer}
 use Rattle.cdb_engine.specs.Tracks.{Leads}
 use Rattle.cdb_engine.specs.declared.errors.AdvanceError.{AdvanceError}
 use Rattle.cdb_engine.specs.declared.errors.AdvanceError.TheVariants as advance

@@ -4,7 +4,7 @@ use Rattle.cdb_model.specs.Causes.{Rose}
 use Rattle.cdb_model.specs.Events as machine
 use Rattle.cdb_model.specs.Events.{Answer}
 use Rattle.cdb_model.specs.Stores.{Kind}
-use Rattle.cdb_model.specs.Transitions.{StateIn, AdvancesIn, IsIdleIn}
+use Rattle.cdb_model.specs.Transitions.{StateIn, GoingIn, AdvancesIn, IsIdleIn}
 use Rattle.cdb_publish.specs.Going.{left_of}
 use Rattle.cdb_publish.specs.declared.errors.PlanError.{PlanError}
 use Rattle.cdb_publish.specs.declared.errors.PlanError.TheVariants as plan
@@ -100,6 +100,11 @@ abbrev pub advance_of : Result Progress StepError → Result Progress AdvanceErr
 advance_of (Ok p) = Ok p
 advance_of (Err made.Fault) = Err advance.Fault
 advance_of (Err (made.Damaged expected found)) = Err (advance.Damaged expected found)
+
+-- so many steps are left of what is going
+abbrev pub LeftIn : (k : Kind) → Option (GoingIn k) → ℕ → Type 0
+LeftIn k None n = n ≡ 0
+LeftIn k (Some now) n = n ≡ now.left
 
 -- which halt a step leaves: what was there, unless it answers that the disk failed or that a file is damaged
 abbrev pub HaltsBy : Result Progress AdvanceError → Option ℕ → Option ℕ → ℕ → Type 0

@@ -16,8 +16,7 @@ use Rattle.cdb_model.specs.declared.line.Line.{Line}
 use Rattle.cdb_model.specs.declared.line.Line.TheVariants as line
 use Rattle.cdb_engine.specs.Tracks.{Leads}
 use Rattle.cdb_front.specs.Hearing.{SaysAsked}
-use Rattle.cdb_engine.specs.StoreAnswers.{TriesIn, advance_answer}
-use Rattle.cdb_engine.specs.inside.StoreAnswers.{LeftIn}
+use Rattle.cdb_engine.specs.StoreAnswers.{LeftIn, TriesIn, advance_answer}
 use Rattle.cdb_front.specs.inside.Stepping.{step_end}
 use Rattle.cdb_front.specs.declared.heard.Asked.{Asked}
 use Rattle.cdb_front.specs.declared.heard.Asked.TheVariants as asked

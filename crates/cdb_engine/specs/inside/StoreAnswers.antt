@@ -1,16 +1,9 @@
 -- Inside the crate: which answer of the machine each result of an engine over a disk is, and what a step leaves.
-use Rattle.std.specs.Prelude.{◌≡◌, ℕ, Option, Some, None, Result, Ok, Err}
-use Rattle.cdb_model.specs.Stores.{Kind}
-use Rattle.cdb_model.specs.Transitions.{GoingIn}
+use Rattle.std.specs.Prelude.{ℕ, Option, Some, None, Result, Ok, Err}
 use Rattle.cdb_publish.specs.declared.errors.Progress.{Progress}
 use Rattle.cdb_publish.specs.declared.errors.Progress.TheVariants as progress
 use Rattle.cdb_publish.specs.declared.errors.StepError.{StepError}
 use Rattle.cdb_publish.specs.declared.publication.Publication.{Publication}
-
--- so many steps are left of what is going
-abbrev pub LeftIn : (k : Kind) → Option (GoingIn k) → ℕ → Type 0
-LeftIn k None n = n ≡ 0
-LeftIn k (Some now) n = n ≡ now.left
 
 -- the publication stays where a step was made and others are left, and goes in every other case
 abbrev pub work_after : Result Progress StepError → Publication → Option Publication

@@ -1,6 +1,6 @@
 use Rattle.std.proofs.Common.{ℕ, None, Some, sym, subst, arith}
 use Rattle.cdb_model.specs.Stores.{store_kind}
-use Rattle.cdb_engine.specs.inside.StoreAnswers.{LeftIn}
+use Rattle.cdb_engine.specs.StoreAnswers.{LeftIn}
 use Rattle.cdb_engine.specs.Stays.{Stays}
 use Rattle.cdb_engine.proofs.StayLaws.{stays_left}
 use Rattle.cdb_engine.proofs.StepLaws.{partly_none, stepped_by, not_all}
