@@ -9,24 +9,14 @@ use Rattle.cdb_tiff_write.specs.inside.Finer.{four_samples}
 use Rattle.cdb_tiff_write.proofs.FrameIn.{frame_number}
 
 -- the numbers as the program passes them
-pub passed : (f : ℤ → ℤ → ℤ → ℤ → ℤ → ℤ) (r a b c d e p q s t u : ℤ) → SFits w16 a → SFits w16 b → SFits w16 c
-    → SFits w16 d → SFits w16 e
+pub passed : (f : ℤ → ℤ → ℤ → ℤ → ℤ → ℤ) (r a b c d e p q s t u : ℤ)
+    → SFits w16 a → SFits w16 b → SFits w16 c → SFits w16 d → SFits w16 e
     → r ≡ f (to_z w16 (of_z w16 a)) (to_z w16 (of_z w16 b)) (to_z w16 (of_z w16 c)) (to_z w16 (of_z w16 d))
     (to_z w16 (of_z w16 e))
     → a ≡ p → b ≡ q → c ≡ s → d ≡ t → e ≡ u → r ≡ f p q s t u
 passed f r a b c d e p q s t u fa fb fc fd fe is ea eb ec ed ee =
-    is ∙ rw (
-      to_z-of_z w16 a fa,
-      to_z-of_z w16 b fb,
-      to_z-of_z w16 c fc,
-      to_z-of_z w16 d fd,
-      to_z-of_z w16 e fe,
-      ea,
-      eb,
-      ec,
-      ed,
-      ee,
-    ) refl
+    is ∙ rw (to_z-of_z w16 a fa, to_z-of_z w16 b fb, to_z-of_z w16 c fc, to_z-of_z w16 d fd, to_z-of_z w16 e fe)
+    (rw (ea, eb, ec, ed, ee) refl)
 
 -- a row is changed by each rule that has the same numbers there
 row_same : (f g : ℕ → ℤ → ℤ) (n : ℕ) (old new : List ℤ) → IsRowChanged f n old new
@@ -54,8 +44,8 @@ row_under f bits used bytes side row n old new e high wide is =
   where
     at : (r north i j : ℕ) → r < side → north ≡ side - 1 - r → j < side → i ≡ north * side + j
         → sample_in used bytes i ≡ number_at (frame_in used bytes side) side r j
-    at r north i j below en right ei = ap (sample_in used bytes) (ei ∙ ap (λ m. m * side + j) en)
-        ∙ sym (frame_number used bytes side r j below right)
+    at r north i j below en right ei =
+        ap (sample_in used bytes) (ei ∙ ap (λ m. m * side + j) en) ∙ sym (frame_number used bytes side r j below right)
 
     four_same : (h : ℤ → ℤ → ℤ → ℤ → ℤ → ℤ) (own a b c d p q s t : ℤ) → a ≡ p → b ≡ q → c ≡ s → d ≡ t
         → h own a b c d ≡ h own p q s t

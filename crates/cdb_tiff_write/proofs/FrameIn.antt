@@ -37,14 +37,13 @@ pub frame_of_file : (ss : List Source) (t : Tile)
     → IsFrameOf ss t (frame_in (bits_of t.family) (tile_bytes ss t) (tile_side t))
 frame_of_file ss t = record {
   size = frame_long (bits_of t.family) (tile_bytes ss t) (tile_side t);
-  each = λ row col a b. frame_number (bits_of t.family) (tile_bytes ss t) (tile_side t) row col a b
-      ∙ tile_samples ss t row col a b;
+  each = λ row col a b.
+      frame_number (bits_of t.family) (tile_bytes ss t) (tile_side t) row col a b ∙ tile_samples ss t row col a b;
 }
 
 -- the same by what the program knows of the file
-pub frame_read_in : (ss : List Source) (t : Tile) (bytes : List ℕ) (side bits : ℕ) → side ≡ tile_side t
-    → bits ≡ bits_of t.family → bytes ≡ tile_bytes ss t
-    → IsFrameOf ss t (frame_in bits bytes side)
+pub frame_read_in : (ss : List Source) (t : Tile) (bytes : List ℕ) (side bits : ℕ)
+    → side ≡ tile_side t → bits ≡ bits_of t.family → bytes ≡ tile_bytes ss t → IsFrameOf ss t (frame_in bits bytes side)
 frame_read_in ss t bytes side bits es eb e =
     subst (λ n. IsFrameOf ss t (frame_in bits bytes n)) (sym es)
     (subst (λ b. IsFrameOf ss t (frame_in b bytes (tile_side t))) (sym eb)

@@ -25,21 +25,17 @@ module _ (t : Tile) (bytes : List ℕ) (old new : List ℤ) where
     each = λ row col a b.
         let n = tile_side t in let k : Kind = kind_of t.family in
         let zr : 0 + row ≡ row = omega arith in let zc : 0 + col ≡ col = omega arith in
-        subst (λ r. number_at new n r col
-        ≡ coded k
-        (option_or (value_of k (number_at old n r col))
-        (value_of k (number_at (frame_in (bits_of t.family) bytes n) n row col)))) zr
-        (subst (λ c. number_at new n (0 + row) c
-        ≡ coded k
-        (option_or (value_of k (number_at old n (0 + row) c))
-        (value_of k (number_at (frame_in (bits_of t.family) bytes n) n row col)))) zc
+        let older : ℤ = number_at (frame_in (bits_of t.family) bytes n) n row col in
+        let filling : ℤ → ℤ → ℤ = λ own other. coded k (option_or (value_of k own) (value_of k other)) in
+        subst (λ r. number_at new n r col ≡ filling (number_at old n r col) older) zr
+        (subst (λ c. number_at new n (0 + row) c ≡ filling (number_at old n (0 + row) c) older) zc
         (all.changed row col a b
-        ∙ ap (λ v. coded k (option_or (value_of k (number_at old n (0 + row) (0 + col))) (value_of k v)))
+        ∙ ap (filling (number_at old n (0 + row) (0 + col)))
         (sym (frame_number (bits_of t.family) bytes n row col a b))));
   }
 
-  pub rows_filled : (kind : Kind) (bits side : ℕ) → kind ≡ kind_of t.family → bits ≡ bits_of t.family
-      → side ≡ tile_side t
+  pub rows_filled : (kind : Kind) (bits side : ℕ)
+      → kind ≡ kind_of t.family → bits ≡ bits_of t.family → side ≡ tile_side t
       → Filled kind bits side → IsFilled t (frame_in (bits_of t.family) bytes (tile_side t)) old new
   rows_filled kind bits side ek eb es is =
       filled (subst (λ n. Filled (kind_of t.family) (bits_of t.family) n) es

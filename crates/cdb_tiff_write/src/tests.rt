@@ -1,6 +1,7 @@
 //! Frames written as files of tiles, and read back.
-use crate::{bits, head, posts_of, put_file, tile_size};
-use cdb_grid::{Arc, Family, Level, Tile, side, tile_at};
+use crate::{bits, fill_file, fold_file, head, posts_of, put_file, tile_size};
+use cdb_grid::{Arc, Family, FourRule, Level, Spot, Tile, side, tile_at};
+use cdb_source::kind_of;
 use std::test::Fail;
 
 /// No elevation.
@@ -57,6 +58,33 @@ fn write_and_read(tile: &Tile, frame: &[i16], bytes: &mut [u8], back: &mut [i16]
     Some(())
 }
 
+/// The number of the south-east quarter.
+struct SouthEast;
+
+impl FourRule for SouthEast {
+    ghost of_four = { λ own sw se nw ne. se };
+
+    fn of_four(&self, _: i16, _: i16, south_east: i16, _: i16, _: i16) -> i16 {
+        south_east
+    }
+}
+
+/// Folds a file of four elements into a frame of one, and fills a frame from a file. None where the
+/// lengths don't fit.
+fn fold_and_fill(tile: &Tile, bytes: &[u8], folded: &mut [i16], filled: &mut [i16]) -> Option<()> {
+    let side = side(tile.level);
+    let elements = side as usize * side as usize;
+    if filled.len() != elements || bytes.len() != tile_size(tile) || folded.len() != 1 {
+        return None;
+    }
+    if side == 2 {
+        let corner = Spot { row: 0, col: 0 };
+        fold_file(&SouthEast, bytes, 2, bits(tile.family), corner, folded, 1);
+    }
+    fill_file(tile, bytes, filled);
+    Some(())
+}
+
 #[test]
 fn files_of_frames(rt: HostRuntime) -> Result<(), Fail> {
     for (family, level, frame, raster) in FRAMES.iter() {
@@ -70,6 +98,12 @@ fn files_of_frames(rt: HostRuntime) -> Result<(), Fail> {
         assert_eq!(rt; first, head(side(tile.level), bits(*family)).as_slice());
         assert_eq!(rt; rest, *raster);
         assert_eq!(rt; &*back, *frame);
+        let mut folded = [7];
+        let mut filled = [kind_of(*family).no_value(); 4];
+        let filled = filled.get_mut(..frame.len()).ok_or("filled")?;
+        fold_and_fill(&tile, bytes, &mut folded, filled).ok_or("sizes")?;
+        assert_eq!(rt; folded, [frame.get(1).copied().unwrap_or(7)]);
+        assert_eq!(rt; &*filled, *frame);
     }
     Ok(())
 }

@@ -16,9 +16,8 @@ loop-k-preserved c =
     let g : SFits w16 c.octet_sample.result = search rules in
     let lt : k < length c.args.part.now = omega arith in
     let first : own ≡ number_in c.args.part.now k = c.loop-k.invariant.rest k (omega arith) lt in
-    let here : c.or_older.result ≡ or_sample c.args.kind 8 c.args.bytes.now (c.args.from + k) own =
+    let rule : ℕ → ℤ → ℤ = λ i. or_sample c.args.kind 8 c.args.bytes.now (c.args.from + i) in
+    let here : c.or_older.result ≡ rule k own =
     rw (to_z-of_z w16 own f, to_z-of_z w16 c.octet_sample.result g, c.octet_sample.ensures) at c.or_older.ensures in
     rw (to_z-of_z w16 c.or_older.result fits)
-    (row-more (λ i. or_sample c.args.kind 8 c.args.bytes.now (c.args.from + i))
-    k c.args.part.now c.loop-k.part c.or_older.result lt c.loop-k.invariant (here
-    ∙ ap (or_sample c.args.kind 8 c.args.bytes.now (c.args.from + k)) first))
+    (row-more rule k c.args.part.now c.loop-k.part c.or_older.result lt c.loop-k.invariant (here ∙ ap (rule k) first))

@@ -18,10 +18,11 @@ loop-k-preserved g c =
     let own : ℤ = get_or c.loop-k.part k (pos 0) in
     let first : own ≡ number_in c.args.part.now k = c.loop-k.invariant.rest k (omega arith) lt in
     rw (to_z-of_z w16 c.of_four.result fits)
-    (row-more (four_samples g.F.FourRule.of_four 16 c.args.bytes.now c.args.south c.args.north)
-    k c.args.part.now c.loop-k.part c.of_four.result lt c.loop-k.invariant
-    (passed g.F.FourRule.of_four c.of_four.result own c.short_sample.result c.short_sample-in-loop-k.result
-    c.short_sample-in-loop-k-2.result c.short_sample-in-loop-k-3.result
+    (row-more (four_samples g.F.FourRule.of_four 16 c.args.bytes.now c.args.south c.args.north) k
+    c.args.part.now c.loop-k.part c.of_four.result lt c.loop-k.invariant
+    (passed g.F.FourRule.of_four c.of_four.result own
+    c.short_sample.result c.short_sample-in-loop-k.result c.short_sample-in-loop-k-2.result
+    c.short_sample-in-loop-k-3.result
     (number_in c.args.part.now k) (at (c.args.south + 2 * k)) (at (c.args.south + 2 * k + 1))
     (at (c.args.north + 2 * k)) (at (c.args.north + 2 * k + 1))
     (search rules) (search rules) (search rules) (search rules) (search rules) c.of_four.ensures first
