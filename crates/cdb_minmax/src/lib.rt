@@ -2,36 +2,44 @@
 //! least and the greatest ones of the next finer level.
 #![tactic(auto)]
 
-ghost use Rattle.std.specs.Prelude.{◌≡◌, ◌+◌, ◌*◌, ◌/◌, ◌%◌, ◌≤◌, length};
+ghost use Rattle.std.specs.Prelude.{◌≡◌, ◌+◌, ◌*◌, ◌/◌, ◌%◌, ◌≤◌, pos, ◌+ℤ◌, ◌-ℤ◌, length};
+ghost use Rattle.std.specs.Int.{w16, int_wrap};
 ghost use Rattle.cdb_grid.specs.Frames.{IsPartChanged, four_under};
 ghost use Rattle.cdb_source.specs.Folds.{finer_low, finer_high, lesser_number, greater_number};
 
 use cdb_grid::{FourRule, Spot, fold_four};
-use cdb_source::Kind;
+
+/// One less than an elevation; the number that stands for no value becomes the greatest one.
+fn lowered(elevation: i16) -> i16
+    ensures { result ≡ int_wrap w16 (elevation -ℤ pos 1) }
+{
+    elevation.wrapping_sub(1)
+}
+
+/// The elevation that was lowered to a number.
+fn raised(number: i16) -> i16
+    ensures { result ≡ int_wrap w16 (number +ℤ pos 1) }
+{
+    number.wrapping_add(1)
+}
 
 /// The lesser of two elevations, one that has no value passed over.
 fn lesser(a: i16, b: i16) -> i16
     ensures { result ≡ lesser_number a b }
 {
-    if b == Kind::Elevation.no_value() {
-        return a;
+    let first = lowered(a);
+    let second = lowered(b);
+    if second < first {
+        raised(second)
+    } else {
+        raised(first)
     }
-    if a == Kind::Elevation.no_value() {
-        return b;
-    }
-    if b < a { b } else { a }
 }
 
-/// The greater of two elevations, one that has no value passed over.
+/// The greater of two elevations, one that has no value, which the least number stands for, passed over.
 fn greater(a: i16, b: i16) -> i16
     ensures { result ≡ greater_number a b }
 {
-    if b == Kind::Elevation.no_value() {
-        return a;
-    }
-    if a == Kind::Elevation.no_value() {
-        return b;
-    }
     if a < b { b } else { a }
 }
 
