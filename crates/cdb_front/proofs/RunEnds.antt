@@ -22,6 +22,7 @@ use Rattle.cdb_engine.specs.Store.{IsStoreFound, TellsNoStore}
 use Rattle.cdb_engine.specs.Tracks.{Leads}
 use Rattle.cdb_front.specs.Beginning.{CountsRecords, BeginsAsRead}
 use Rattle.cdb_front.specs.inside.Checking.{checked_status}
+use Rattle.cdb_front.specs.inside.Failures.{KeepsFailure}
 use Rattle.cdb_front.specs.Failures.{ReadsOnce, EndsReading}
 use Rattle.cdb_front.specs.RunOutcome.{StopsScript, IsOfStore, Hears, AllMade, WritesAnswers, EndsScript, EndsUnwritten, HasRecords, SaysStore, WasOpened, HasNoStore, status_of}
 use Rattle.cdb_front.specs.RunProgress.{Sight, RunStart, Holds, Runs, first_state, Told, RunSoFar, Answered, IsQuit, Broken, UpTo}
@@ -452,29 +453,29 @@ reads_whole status result before now same once read wrote = by status once (λ e
     by (Damaged expected found) once read = once
 
 -- no read failed, or the last one
-pub ends_reading : (status : Status) (before now : ℕ) (left failed_at : Option (List ℕ))
+pub ends_reading : (status : Status) (before now : ℕ) (left failed_before failed_at : Option (List ℕ))
     → (status ≡ InputFault → Rose before now) → (status ≡ InputFault → left ≡ failed_at) → ReadsOnce status before now
-    → EndsReading status before now left failed_at
-ends_reading InputFault before now left failed_at rose stops once =
+    → KeepsFailure status failed_before failed_at → EndsReading status before now left failed_before failed_at
+ends_reading InputFault before now left failed_before failed_at rose stops once keeps =
     record { rose = rose refl; once = once; stops = stops refl }
-ends_reading Done before now left failed_at rose stops once = once
-ends_reading Memory before now left failed_at rose stops once = once
-ends_reading Usage before now left failed_at rose stops once = once
-ends_reading OutputFault before now left failed_at rose stops once = once
-ends_reading StoreFault before now left failed_at rose stops once = once
-ends_reading (NotAStore version place) before now left failed_at rose stops once = once
-ends_reading TooLong before now left failed_at rose stops once = once
-ends_reading (Differs path) before now left failed_at rose stops once = once
-ends_reading (Refused limit) before now left failed_at rose stops once = once
-ends_reading (Damaged expected found) before now left failed_at rose stops once = once
+ends_reading Done before now left failed_before failed_at rose stops once keeps = (once, keeps)
+ends_reading Memory before now left failed_before failed_at rose stops once keeps = (once, keeps)
+ends_reading Usage before now left failed_before failed_at rose stops once keeps = (once, keeps)
+ends_reading OutputFault before now left failed_before failed_at rose stops once keeps = (once, keeps)
+ends_reading StoreFault before now left failed_before failed_at rose stops once keeps = (once, keeps)
+ends_reading (NotAStore version place) before now left failed_before failed_at rose stops once keeps = (once, keeps)
+ends_reading TooLong before now left failed_before failed_at rose stops once keeps = (once, keeps)
+ends_reading (Differs path) before now left failed_before failed_at rose stops once keeps = (once, keeps)
+ends_reading (Refused limit) before now left failed_before failed_at rose stops once keeps = (once, keeps)
+ends_reading (Damaged expected found) before now left failed_before failed_at rose stops once keeps = (once, keeps)
 
 -- nothing was read
 pub reads_none : (status : Status) (faults : ℕ) (left failed_at : Option (List ℕ)) → HasNoStore status
-    → EndsReading status faults faults left failed_at
-reads_none Memory faults left failed_at closed = refl
-reads_none Usage faults left failed_at closed = refl
-reads_none StoreFault faults left failed_at closed = refl
-reads_none (NotAStore version place) faults left failed_at closed = refl
+    → EndsReading status faults faults left failed_at failed_at
+reads_none Memory faults left failed_at closed = (refl, refl)
+reads_none Usage faults left failed_at closed = (refl, refl)
+reads_none StoreFault faults left failed_at closed = (refl, refl)
+reads_none (NotAStore version place) faults left failed_at closed = (refl, refl)
 reads_none Done faults left failed_at closed = absurd closed
 reads_none InputFault faults left failed_at closed = absurd closed
 reads_none OutputFault faults left failed_at closed = absurd closed

@@ -43,7 +43,7 @@ pub record FailsLast (before now : ℕ) (left failed_at : Option (List ℕ)) : T
   pub once : now ≤ before + 1
   pub stops : left ≡ failed_at
 
--- by how the reading of the input ended: no read failed, or the last one
-abbrev pub EndsReading : Status → ℕ → ℕ → Option (List ℕ) → Option (List ℕ) → Type 0
-EndsReading InputFault before now left failed_at = FailsLast before now left failed_at
-EndsReading status before now left failed_at = now ≡ before
+-- by how the reading of the input ended: no read failed, also where the count stands at its last value, or the last one
+abbrev pub EndsReading : Status → ℕ → ℕ → Option (List ℕ) → Option (List ℕ) → Option (List ℕ) → Type 0
+EndsReading InputFault before now left failed_before failed_at = FailsLast before now left failed_at
+EndsReading status before now left failed_before failed_at = (now ≡ before) × (failed_at ≡ failed_before)

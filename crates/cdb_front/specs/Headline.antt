@@ -89,7 +89,7 @@ pub record ReadsScript (v : Devices) (life : Life v) (from : Option Base) : Type
       (v.written life.output') (v.clock life.new) (v.since life.new) (v.state life.new) life.status
   pub begins : BeginsAsRead v.disk_tells (v.state life.old).present start outcome.status
   pub reads : EndsReading outcome.status (v.input_faults life.input) (v.input_faults life.input') (v.left life.input')
-      (v.failed_at life.input')
+      (v.failed_at life.input) (v.failed_at life.input')
 
 -- how a run went, by its task
 abbrev pub GoesBy : (v : Devices) → Life v → Option Base → Task → Type 0

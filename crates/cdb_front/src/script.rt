@@ -2,7 +2,7 @@ ghost use Rattle.std.specs.Prelude.{◌≡◌, ◌≢◌, [], ◌+◌, ◌<◌, 
 ghost use Rattle.std.specs.Io.KnownBytes.{Consumes, IsAtEnd};
 ghost use Rattle.cdb_model.specs.Causes.{Rose};
 ghost use Rattle.cdb_front.specs.Failures.{WritesOnce, ReadsOnce};
-ghost use Rattle.cdb_front.specs.inside.Failures.{WritesInTurn, ReadsInTurn};
+ghost use Rattle.cdb_front.specs.inside.Failures.{WritesInTurn, ReadsInTurn, KeepsFailure, KeepsInTurn};
 ghost use Rattle.cdb_front.specs.RunProgress.{RunStart, origin_of, Told};
 ghost use Rattle.cdb_front.specs.RunOutcome.{StopsScript, WasOpened};
 ghost use Rattle.cdb_front.specs.inside.RunReading.{Reading, TakesTurn, TakesSome, StopsOpened};
@@ -83,6 +83,7 @@ fn take_turn<D: Disk, H: Shelf, E: StoreCalls<D>, I: Input, O: Output>(
     ensures input_stops { result ≡ Turned.Stopped Status.InputFault → I.left input.new ≡ I.failed_at input.new }
     ensures opened { StopsOpened result }
     ensures reads { ReadsInTurn result (I.fault_count input.old) (I.fault_count input.new) }
+    ensures place { KeepsInTurn result (I.failed_at input.old) (I.failed_at input.new) }
     ensures writes { WritesInTurn result (O.fault_count output.old) (O.fault_count output.new) }
     ensures output_later { O.fault_count output.old ≤ O.fault_count output.new }
     ensures output_failed { result ≡ Turned.Stopped Status.OutputFault
@@ -135,6 +136,7 @@ pub fn run_script<D: Disk, H: Shelf, E: StoreCalls<D>, I: Input, O: Output>(
     ensures input_stops { result ≡ Status.InputFault → I.left input.new ≡ I.failed_at input.new }
     ensures opened { WasOpened result }
     ensures reads { ReadsOnce result (I.fault_count input.old) (I.fault_count input.new) }
+    ensures place { KeepsFailure result (I.failed_at input.old) (I.failed_at input.new) }
     ensures writes { WritesOnce result (O.fault_count output.old) (O.fault_count output.new) }
     ensures output_later { O.fault_count output.old ≤ O.fault_count output.new }
     ensures output_failed { result ≡ Status.OutputFault → Rose (O.fault_count output.old) (O.fault_count output.new) }

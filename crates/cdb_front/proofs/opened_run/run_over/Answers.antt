@@ -61,8 +61,9 @@ returns-in-Ok-clause-outcome g c = λ from knows.
           });
       reads = ends_reading c.run_script-status.result (g.I.Input.fault_count c.args.input.now)
           (g.I.Input.fault_count c.run_script-status.new.input) (g.I.Input.left c.run_script-status.new.input)
-          (g.I.Input.failed_at c.run_script-status.new.input) c.run_script-status.ensures.input_failed
-          c.run_script-status.ensures.input_stops c.run_script-status.ensures.reads;
+          (g.I.Input.failed_at c.args.input.now) (g.I.Input.failed_at c.run_script-status.new.input)
+          c.run_script-status.ensures.input_failed c.run_script-status.ensures.input_stops
+          c.run_script-status.ensures.reads c.run_script-status.ensures.place;
     }
 
 pub returns-in-Err-clause-outcome : goal.returns-in-Err-clause-outcome

@@ -1,6 +1,7 @@
-use Rattle.std.proofs.Common.{◌≡◌, ◌^◌, ℕ, arith, refl, subst, ◌∙◌}
+use Rattle.std.proofs.Common.{◌≡◌, ◌^◌, ℕ, List, Option, arith, refl, subst, ◌∙◌}
 use Rattle.std.proofs.lemmas.List.{length-take}
 use Rattle.cdb_front.specs.Failures.{ReadsOnce, WritesOnce}
+use Rattle.cdb_front.specs.inside.Failures.{KeepsFailure}
 use Rattle.cdb_front.proofs.RunEnds.{reading_begins, stops_long}
 use Rattle.cdb_front.proofs.script.run_script.Goals as goal
 
@@ -15,6 +16,7 @@ loop-taken-init g c = record {
   input_later = omega arith;
   output_later = omega arith;
   reads = refl;
+  place = refl;
   writes = refl;
 }
 
@@ -40,3 +42,8 @@ pub returns-in-Stopped-clause-writes : goal.returns-in-Stopped-clause-writes
 returns-in-Stopped-clause-writes g c =
     subst (λ (n : ℕ). WritesOnce c.in-Stopped.status n (g.O.Output.fault_count c.take_turn.new.output))
     c.loop-taken.invariant.writes c.in-Stopped.ensures.writes
+
+pub returns-in-Stopped-clause-place : goal.returns-in-Stopped-clause-place
+returns-in-Stopped-clause-place g c =
+    subst (λ (f : Option (List ℕ)). KeepsFailure c.in-Stopped.status f (g.I.Input.failed_at c.take_turn.new.input))
+    c.loop-taken.invariant.place c.in-Stopped.ensures.place

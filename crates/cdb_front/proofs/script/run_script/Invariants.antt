@@ -18,6 +18,7 @@ invariant-loop-taken g l = record {
   input_later : g.I.Input.fault_count l.fn.input ≤ g.I.Input.fault_count l.input;
   output_later : g.O.Output.fault_count l.fn.output ≤ g.O.Output.fault_count l.output;
   reads : g.I.Input.fault_count l.input ≡ g.I.Input.fault_count l.fn.input;
+  place : g.I.Input.failed_at l.input ≡ g.I.Input.failed_at l.fn.input;
   writes : g.O.Output.fault_count l.output ≡ g.O.Output.fault_count l.fn.output;
 }
 

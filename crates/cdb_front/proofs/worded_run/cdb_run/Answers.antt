@@ -37,7 +37,7 @@ returns-in-Err-Memory-clause-outcome g c = λ options is mode from knows.
           (told_shut e (g.D.Disk.fault_count c.args.disk.now) same))
           c.end.ensures.ends;
       begins = tt;
-      reads = refl;
+      reads = (refl, refl);
     }
 
 pub returns-in-Err-Memory-clause-checks : goal.returns-in-Err-Memory-clause-checks
