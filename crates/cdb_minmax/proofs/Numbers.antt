@@ -36,7 +36,7 @@ raised_some z p r f e is =
 -- where the lowered second number is the lesser one, and where it isn't
 module _ (a b p q : ℤ) (fa : FitsSigned w16 a) (fb : FitsSigned w16 b)
     (first : p ≡ int_wrap w16 (a -ℤ pos 1)) (second : q ≡ int_wrap w16 (b -ℤ pos 1)) where
-  pub lesser_second : (r : ℤ) → int_lt q p ≡ true → r ≡ int_wrap w16 (q +ℤ pos 1) → r ≡ lesser_number a b
+  lesser_second : (r : ℤ) → int_lt q p ≡ true → r ≡ int_wrap w16 (q +ℤ pos 1) → r ≡ lesser_number a b
   lesser_second r less is = by (int_eq a (negsuc 32767)) (int_eq b (negsuc 32767)) refl refl
     where
       value : b ≢ negsuc 32767 → r ≡ b
@@ -58,7 +58,7 @@ module _ (a b p q : ℤ) (fa : FitsSigned w16 a) (fb : FitsSigned w16 b)
           let l : int_lt b a ≡ true = grind (arith, ints) in
           value nb ∙ ap (λ x. if x then b else a) (sym l)
 
-  pub lesser_first : (r : ℤ) → int_lt q p ≡ false → r ≡ int_wrap w16 (p +ℤ pos 1) → r ≡ lesser_number a b
+  lesser_first : (r : ℤ) → int_lt q p ≡ false → r ≡ int_wrap w16 (p +ℤ pos 1) → r ≡ lesser_number a b
   lesser_first r less is = by (int_eq a (negsuc 32767)) (int_eq b (negsuc 32767)) refl refl
     where
       value : a ≢ negsuc 32767 → r ≡ a
@@ -78,3 +78,10 @@ module _ (a b p q : ℤ) (fa : FitsSigned w16 a) (fb : FitsSigned w16 b)
           let la = lowered_some a p fa na first in let lb = lowered_some b q fb nb second in
           let l : int_lt b a ≡ false = grind (arith, ints) in
           value na ∙ ap (λ x. if x then b else a) (sym l)
+
+  pub lesser_is : (m r : ℤ) → m ≡ (if int_lt q p then q else p) → r ≡ int_wrap w16 (m +ℤ pos 1) → r ≡ lesser_number a b
+  lesser_is m r least is = by (int_lt q p) refl least
+    where
+      by : (l : Bool) → int_lt q p ≡ l → m ≡ (if l then q else p) → r ≡ lesser_number a b
+      by true less e = lesser_second r less (is ∙ ap (λ n. int_wrap w16 (n +ℤ pos 1)) e)
+      by false less e = lesser_first r less (is ∙ ap (λ n. int_wrap w16 (n +ℤ pos 1)) e)

@@ -2,7 +2,7 @@
 //! least and the greatest ones of the next finer level.
 #![tactic(auto)]
 
-ghost use Rattle.std.specs.Prelude.{◌≡◌, ◌+◌, ◌*◌, ◌/◌, ◌%◌, ◌≤◌, pos, ◌+ℤ◌, ◌-ℤ◌, length};
+ghost use Rattle.std.specs.Prelude.{◌≡◌, ◌+◌, ◌*◌, ◌/◌, ◌%◌, ◌≤◌, pos, ◌+ℤ◌, ◌-ℤ◌, int_lt, if◌then◌else◌, length};
 ghost use Rattle.std.specs.Int.{w16, int_wrap};
 ghost use Rattle.cdb_grid.specs.Frames.{IsPartChanged, four_under};
 ghost use Rattle.cdb_source.specs.Folds.{finer_low, finer_high, lesser_number, greater_number};
@@ -23,17 +23,18 @@ fn raised(number: i16) -> i16
     number.wrapping_add(1)
 }
 
+/// The smaller of two numbers.
+fn smaller(a: i16, b: i16) -> i16
+    ensures { result ≡ (if int_lt b a then b else a) }
+{
+    if b < a { b } else { a }
+}
+
 /// The lesser of two elevations, one that has no value passed over.
 fn lesser(a: i16, b: i16) -> i16
     ensures { result ≡ lesser_number a b }
 {
-    let first = lowered(a);
-    let second = lowered(b);
-    if second < first {
-        raised(second)
-    } else {
-        raised(first)
-    }
+    raised(smaller(lowered(a), lowered(b)))
 }
 
 /// The greater of two elevations, one that has no value, which the least number stands for, passed over.

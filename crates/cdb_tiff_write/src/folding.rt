@@ -2,10 +2,10 @@
 ghost use Rattle.std.specs.Prelude.{◌≡◌, ◌+◌, ◌*◌, ◌/◌, ◌%◌, ◌≤◌, ◌==◌, ◌||◌, IsTrue, length};
 ghost use Rattle.cdb_grid.specs.Frames.{IsRowChanged, IsPartChanged, four_under};
 ghost use Rattle.cdb_tiff_write.specs.Samples.{frame_in};
-ghost use Rattle.cdb_tiff_write.specs.inside.Finer.{HasFinerRows, four_samples};
-ghost use Rattle.cdb_model.specs.declared.limits.TheConstants.{MOST_TILE_VALUES, TILE_HEAD_BYTES};
+ghost use Rattle.cdb_tiff_write.specs.inside.Finer.{HasFinerRows, four_in_rows};
+ghost use Rattle.cdb_model.specs.declared.limits.TheConstants.{TILE_HEAD_BYTES};
 
-use crate::samples::{octet_sample, short_sample};
+use crate::samples::read_row;
 use cdb_grid::{FourRule, RowRule, Spot, change_part};
 
 /// The file of a finer tile, under the numbers of a coarser one.
@@ -18,43 +18,44 @@ struct FinerFile<'a, F> {
     ghost known: { IsTrue (bits == 8 || bits == 16) },
 }
 
-/// Folds two rows of samples of two bytes into the row above them. The rows begin at these numbers of
-/// samples.
-fn fold_shorts<F: FourRule>(rule: &F, bytes: &[u8], south: usize, north: usize, part: &mut [i16])
-    requires south { south + 2 * length part.old ≤ MOST_TILE_VALUES }
-    requires north { north + 2 * length part.old ≤ MOST_TILE_VALUES }
-    requires south_within { TILE_HEAD_BYTES + 2 * (south + 2 * length part.old) ≤ length bytes.now }
-    requires north_within { TILE_HEAD_BYTES + 2 * (north + 2 * length part.old) ≤ length bytes.now }
-    ensures { IsRowChanged (four_samples F.of_four 16 bytes.now south north) (length part.old) part.old part.new }
+/// Folds two rows of a finer tile into the row above them.
+fn fold_row<F: FourRule>(rule: &F, south: &[i16], north: &[i16], part: &mut [i16])
+    requires south { 2 * length part.old ≤ length south.now }
+    requires north { 2 * length part.old ≤ length north.now }
+    ensures { IsRowChanged (four_in_rows F.of_four south.now north.now) (length part.old) part.old part.new }
 {
     for k in 0..part.len() {
         part[k] = rule.of_four(
             part[k],
-            short_sample(bytes, south + 2 * k),
-            short_sample(bytes, south + 2 * k + 1),
-            short_sample(bytes, north + 2 * k),
-            short_sample(bytes, north + 2 * k + 1),
+            south[2 * k],
+            south[2 * k + 1],
+            north[2 * k],
+            north[2 * k + 1],
         );
     }
 }
 
-/// The same of samples of one byte.
-fn fold_octets<F: FourRule>(rule: &F, bytes: &[u8], south: usize, north: usize, part: &mut [i16])
-    requires south { south + 2 * length part.old ≤ MOST_TILE_VALUES }
-    requires north { north + 2 * length part.old ≤ MOST_TILE_VALUES }
-    requires south_within { TILE_HEAD_BYTES + (south + 2 * length part.old) ≤ length bytes.now }
-    requires north_within { TILE_HEAD_BYTES + (north + 2 * length part.old) ≤ length bytes.now }
-    ensures { IsRowChanged (four_samples F.of_four 8 bytes.now south north) (length part.old) part.old part.new }
+/// Reads the two rows under this one, for which there is room, and folds them into it. Numbers that
+/// stand in a row of their own are faster to fold than the bytes.
+fn fold_two_rows<F: FourRule>(
+    finer: &FinerFile<'_, F>,
+    row: usize,
+    south: &mut [i16],
+    north: &mut [i16],
+    part: &mut [i16],
+)
+    requires rows { HasFinerRows finer.now.bytes.now finer.now.side finer.now.bits row (length part.old) }
+    requires south { length south.old ≡ 1024 }
+    requires north { length north.old ≡ 1024 }
+    ensures { IsRowChanged (four_under F.of_four (frame_in finer.now.bits finer.now.bytes.now finer.now.side)
+        finer.now.side row) (length part.old) part.old part.new }
 {
-    for k in 0..part.len() {
-        part[k] = rule.of_four(
-            part[k],
-            octet_sample(bytes, south + 2 * k),
-            octet_sample(bytes, south + 2 * k + 1),
-            octet_sample(bytes, north + 2 * k),
-            octet_sample(bytes, north + 2 * k + 1),
-        );
-    }
+    let side = finer.side;
+    let south = &mut south[..side];
+    let north = &mut north[..side];
+    read_row(finer.bytes, finer.bits, (side - 1 - 2 * row) * side, south);
+    read_row(finer.bytes, finer.bits, (side - 2 - 2 * row) * side, north);
+    fold_row(finer.rule, south, north, part);
 }
 
 impl<F: FourRule> RowRule for FinerFile<'_, F> {
@@ -63,13 +64,9 @@ impl<F: FourRule> RowRule for FinerFile<'_, F> {
     ghost rule = { λ finer. four_under F.of_four (frame_in finer.bits finer.bytes.now finer.side) finer.side };
 
     fn change_row(&self, row: usize, part: &mut [i16]) {
-        let south = (self.side - 1 - 2 * row) * self.side;
-        let north = (self.side - 2 - 2 * row) * self.side;
-        if self.bits == 8 {
-            fold_octets(self.rule, self.bytes, south, north, part);
-        } else {
-            fold_shorts(self.rule, self.bytes, south, north, part);
-        }
+        let mut south = [0; 1024];
+        let mut north = [0; 1024];
+        fold_two_rows(self, row, &mut south, &mut north, part);
     }
 }
 

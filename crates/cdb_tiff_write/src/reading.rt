@@ -7,9 +7,9 @@ ghost use Rattle.cdb_source.specs.declared.source.Source as sources;
 ghost use Rattle.cdb_model.specs.TileFile.{bits_of, tile_bytes};
 ghost use Rattle.cdb_cut.specs.OneTile.{IsFrameOf};
 ghost use Rattle.cdb_tiff_write.specs.Samples.{sample_in, HasRaster};
-ghost use Rattle.cdb_model.specs.declared.limits.TheConstants.{MOST_TILE_VALUES, TILE_HEAD_BYTES};
+ghost use Rattle.cdb_model.specs.declared.limits.TheConstants.{TILE_HEAD_BYTES};
 
-use crate::samples::{octet_sample, short_sample};
+use crate::samples::read_row;
 use cdb_grid::{RowRule, Spot, change_part};
 
 /// The raster of a tile's file.
@@ -21,20 +21,6 @@ struct Raster<'a> {
     ghost known: { IsTrue (bits == 8 || bits == 16) },
 }
 
-/// One sample, by its number from the north-west.
-fn sample(bytes: &[u8], bits: u8, number: usize) -> i16
-    requires bits { IsTrue (bits == 8 || bits == 16) }
-    requires within { TILE_HEAD_BYTES + (number + 1) * (bits / 8) ≤ length bytes.now }
-    requires small { number < MOST_TILE_VALUES }
-    ensures { result ≡ sample_in bits bytes.now number }
-{
-    if bits == 8 {
-        octet_sample(bytes, number)
-    } else {
-        short_sample(bytes, number)
-    }
-}
-
 impl RowRule for Raster<'_> {
     ghost has_row = { λ r row cols. HasRaster r.bytes.now r.side r.bits row cols };
 
@@ -42,9 +28,7 @@ impl RowRule for Raster<'_> {
 
     fn change_row(&self, row: usize, part: &mut [i16]) {
         let from = (self.side - 1 - row) * self.side;
-        for k in 0..part.len() {
-            part[k] = sample(self.bytes, self.bits, from + k);
-        }
+        read_row(self.bytes, self.bits, from, part);
     }
 }
 
