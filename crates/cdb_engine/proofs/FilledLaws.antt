@@ -1,6 +1,6 @@
 -- What publications that are drawn leave in a store that is known.
-use Rattle.std.proofs.Common.{◌≡◌, inl, inr, ℕ, ◌+◌, ◌≤◌, ◌<◌, ℤ, pos, List, [], ◌∷◌, ◌++◌, length, Option, None, Some}
-use Rattle.std.proofs.Common.{Result, Ok, Err, refl, sym, ◌∙◌, ap, subst, arith}
+use Rattle.std.proofs.Common.{◌≡◌, ◌⊎◌, inl, inr, ℕ, ◌+◌, ◌≤◌, ◌<◌, ℤ, pos, List, [], ◌∷◌, ◌++◌, length, Option, None}
+use Rattle.std.proofs.Common.{Some, Result, Ok, Err, refl, sym, ◌∙◌, ap, subst, arith}
 use Rattle.std.proofs.lemmas.List.{append-nil, append_assoc, append_cancel_left, length-append}
 use Rattle.cdb_model.specs.Begun.{HasBegun, begun_by, unfinished}
 use Rattle.cdb_model.specs.Images.{Base, StandsSince}
@@ -22,7 +22,8 @@ use Rattle.cdb_generate.specs.Generator.{passed, AreDrawn}
 use Rattle.cdb_generate.specs.Generated.{GeneratedSoFar, Generates}
 use Rattle.cdb_generate.specs.Sums.{IsSum}
 use Rattle.cdb_generate.proofs.ListLaws.{in_order}
-use Rattle.cdb_engine.specs.Filling.{AreMade, StopsAfter, PopulatesIn, FillsWith, IsUndamaged, Populates}
+use Rattle.cdb_engine.specs.Filling.{StandsButLast, with_all, but_last, AreMade, StopsAfter, PopulatesIn, FillsWith}
+use Rattle.cdb_engine.specs.Filling.{IsUndamaged, Populates}
 use Rattle.cdb_engine.specs.Populating.{IsAtRest, CameTo, not_begun, given_up, complete, HasPending, StopsBy}
 use Rattle.cdb_engine.specs.declared.errors.PopulateError.{PopulateError}
 use Rattle.cdb_engine.specs.declared.errors.PopulateError.TheVariants.{Memory, Fault, Entries, Versions, Damaged}
@@ -148,6 +149,26 @@ filled base start count Left begun s made has are versions left =
       sum_is = subst (λ (l : List Publication). IsSum base.list l made.sum) (sym same) sofar.sum_is;
     }
 
+-- whatever is going or was given up, a crash leaves all that were begun, but for the last
+left_by : (from ended begun list : List Publication) (going : Option Going) (given : Option Publication)
+    (work : Option publish.Publication) (halted : Option ℕ) (chain : chains.Versions) (d : disk.State)
+    → list ≡ from ++ ended → begun ≡ ended ++ unfinished going given
+    → Works list going given work halted chain d → (m : FileMap) → IsImage d m → StandsButLast from begun m
+left_by from ended begun list None None None None chain d list_is begun_is works m image =
+    with_all (subst (Stands m) (list_is ∙ ap (λ (l : List Publication). from ++ l)
+    (sym (begun_is ∙ append-nil ended))) (works.whole.stands m image))
+left_by from ended begun list (Some now) None (Some work) None chain d list_is begun_is works m image =
+    but_last ended now.publication begun_is
+    (subst (Stands m) list_is (works.underway.mid.whole.stands m image))
+left_by from ended begun list None (Some x) None (Some faults) chain d list_is begun_is works m image =
+    by (works m image)
+  where
+    by : Stands m list ⊎ Stands m (list ++ x ∷ []) → StandsButLast from begun m
+    by (inl stands) = but_last ended x begun_is (subst (Stands m) list_is stands)
+    by (inr stands) = with_all (subst (Stands m) (ap (λ (l : List Publication). l ++ x ∷ []) list_is
+        ∙ append_assoc from ended (x ∷ []) ∙ ap (λ (l : List Publication). from ++ l) (sym begun_is)) stands)
+left_by from ended begun list _ _ _ _ chain d list_is begun_is works m image = absurd works
+
 -- ---- the whole
 
 module _ {D : Type 0} (tells : Type 0) (clock count : D → ℕ) (since : D → ℕ → FileMap → Type 0) (state : D → disk.State)
@@ -170,6 +191,8 @@ module _ {D : Type 0} (tells : Type 0) (clock count : D → ℕ) (since : D → 
             (are_begun base.list start most most made.files made.sum s.list (begun_by s) (omega arith)
             (all_complete s s.list refl are.at_rest.going are.at_rest.halted) are.follow) f.images;
         later_images = f.later_images;
+        left = left_by base.list f.has_begun.complete f.begun s.list s.going s.halted held.work held.halted held.chain
+            (state d) f.has_begun.list_is f.has_begun.begun_is f.tracks.works;
         filled = filled base start most (IsImage (state d)) f.begun s made f.has_begun are led.step.1
             (clean s.list s.going s.halted held.work held.halted held.chain (state d) are.at_rest.going
             are.at_rest.halted f.tracks.works).whole.stands;
@@ -182,6 +205,8 @@ module _ {D : Type 0} (tells : Type 0) (clock count : D → ℕ) (since : D → 
           (are_begun base.list start most 0 0 (pos 0) base.list (begun_by led.next) (omega arith)
           (ap begun_by none.1 ∙ append-nil base.list) (in_order.begins base.list start)) f.images;
       later_images = f.later_images;
+      left = left_by base.list f.has_begun.complete f.begun led.next.list led.next.going led.next.halted held.work
+          held.halted held.chain (state d) f.has_begun.list_is f.has_begun.begun_is f.tracks.works;
       filled = tt;
       undamaged = subst (λ (e : PopulateError). IsUndamaged e) (sym none.0) tt;
     }
@@ -191,6 +216,8 @@ module _ {D : Type 0} (tells : Type 0) (clock count : D → ℕ) (since : D → 
           (stopped base.list start most after.done after.files after.sum after.mid after.made.follow after.fewer
           error led.next after.made.at_rest after.stops) f.images;
       later_images = f.later_images;
+      left = left_by base.list f.has_begun.complete f.begun led.next.list led.next.going led.next.halted held.work
+          held.halted held.chain (state d) f.has_begun.list_is f.has_begun.begun_is f.tracks.works;
       filled = tt;
       undamaged = undamaged after.mid led.next (passed after.done start) error after.stops;
     }

@@ -1,5 +1,5 @@
 -- What a generator's publications leave in a store, one after another.
-use Rattle.std.specs.Prelude.{◌≡◌, ◌⊎◌, ℕ, ◌+◌, ◌<◌, ℤ, List, ◌++◌, length, Result, Ok, Err, IfOk, IfErr}
+use Rattle.std.specs.Prelude.{◌≡◌, ◌⊎◌, ℕ, ◌+◌, ◌<◌, ℤ, List, [], ◌∷◌, ◌++◌, length, Result, Ok, Err, IfOk, IfErr}
 use Rattle.cdb_model.specs.Images.{Base, StandsFrom}
 use Rattle.cdb_model.specs.Maps.{FileMap}
 use Rattle.cdb_model.specs.Publications.{Publication, IsEntryCount}
@@ -71,12 +71,19 @@ abbrev pub IsUndamaged : PopulateError → Type 0
 IsUndamaged (Damaged expected found) = ⊥
 IsUndamaged _ = Unit {0}
 
+-- a map stands for a list followed by all publications that were begun, or by all but the last
+pub data StandsButLast (from begun : List Publication) (m : FileMap) : Type 0 where
+  with_all : Stands m (from ++ begun) → StandsButLast from begun m
+  but_last : (first : List Publication) (last : Publication) → begun ≡ first ++ last ∷ [] → Stands m (from ++ first)
+      → StandsButLast from begun m
+
 -- whatever came of it, the publications begun are the first of the generator's; whatever a crash since opening ended
--- leaves stands for the list followed by the first of them
+-- leaves stands for the list followed by the first of them, and whatever it leaves now, by all but at most the last
 pub record Populates (base : Base) (start count : ℕ) (Since SinceOpened Left : FileMap → Type 0)
     (result : Result Made PopulateError) : Type 0 where
   pub begun : List Publication
   pub generates : Generates base start count Since begun
   pub later_images : (m : FileMap) → SinceOpened m → StandsFrom base.list begun m
+  pub left : (m : FileMap) → Left m → StandsButLast base.list begun m
   pub filled : IfOk result (FillsWith base count Left begun)
   pub undamaged : IfErr result IsUndamaged

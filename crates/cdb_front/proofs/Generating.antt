@@ -24,7 +24,7 @@ use Rattle.cdb_engine.specs.Store.{IsStore, IsStoreFound}
 use Rattle.cdb_engine.specs.Tracks.{Origin, Leads}
 use Rattle.cdb_generate.specs.Generated.{Generates, summary_text}
 use Rattle.cdb_generate.specs.Generator.{passed}
-use Rattle.cdb_engine.specs.Filling.{PopulatesIn, StopsAfter, Populates, IsUndamaged}
+use Rattle.cdb_engine.specs.Filling.{StandsButLast, PopulatesIn, StopsAfter, Populates, IsUndamaged}
 use Rattle.cdb_engine.specs.Populating.{IsAtRest, HasPending}
 use Rattle.cdb_engine.specs.declared.errors.PopulateError.{PopulateError}
 use Rattle.cdb_engine.specs.declared.errors.PopulateError.TheVariants as populate
@@ -247,8 +247,7 @@ idle_still : (mid next : KnownState) (x : ℕ) → mid.going ≡ None → HasPen
 idle_still mid next x idle pending = ap (λ (s : KnownState). s.going) pending.state ∙ idle
 
 module _ {D : Type 0} (tells : Type 0) (state : D → disk.State) (clock : D → ℕ) (since : D → ℕ → FileMap → Type 0)
-    (old mid new : D) (start count : ℕ) (written written' : Option (List ℕ))
-    (counts_now : (m : FileMap) → clock mid ≤ clock new → IsImage (state new) m → since new (clock mid) m) where
+    (old mid new : D) (start count : ℕ) (written written' : Option (List ℕ)) where
   opens_within : (base : Base) (result : Result Made PopulateError)
       → (c : Came state clock since old mid new base start count result)
       → OpensWithin clock since base old new (StandsFrom base.list c.populates.begun)
@@ -284,7 +283,7 @@ module _ {D : Type 0} (tells : Type 0) (state : D → disk.State) (clock : D →
       }
   ends_stopped (populate.Damaged expected found) base begun c undamaged = absurd undamaged
 
-  stands_stopped : (error : PopulateError) (list begun : List Publication) (m : FileMap) → StandsFrom list begun m
+  stands_stopped : (error : PopulateError) (list begun : List Publication) (m : FileMap) → StandsButLast list begun m
       → StandsMade (made_status error) list begun m
   stands_stopped populate.Memory list begun m stands = stands
   stands_stopped populate.Fault list begun m stands = stands
@@ -307,7 +306,7 @@ module _ {D : Type 0} (tells : Type 0) (state : D → disk.State) (clock : D →
       begun = c.populates.begun;
       generates = c.populates.generates;
       over = behind_opening (opens_within base (Err error) c) (λ m image. stands_stopped error base.list
-          c.populates.begun m (c.populates.later_images m (counts_now m c.earlier image)));
+          c.populates.begun m (c.populates.left m image));
       ends = ends_stopped error base c.populates.begun c c.populates.undamaged;
     };
     ends = subst (λ (s : Status). EndsWith s written written' result) is ends;

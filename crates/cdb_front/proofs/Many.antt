@@ -11,6 +11,7 @@ use Rattle.cdb_files.specs.Disk.{IsImage}
 use Rattle.cdb_crash.specs.Crash.{IsWhole}
 use Rattle.cdb_model.specs.Begun.{acknowledged}
 use Rattle.cdb_model.specs.Images.{StandsFrom, StandsKept, StandsForOne, StandsSince}
+use Rattle.cdb_engine.specs.Filling.{StandsButLast, with_all, but_last}
 use Rattle.cdb_front.specs.Checking.{ChecksStore}
 use Rattle.cdb_front.specs.Generating.{FillsStore, StandsMade}
 use Rattle.cdb_front.specs.OverStore.{EndsOver, in_opening, behind_opening}
@@ -109,53 +110,51 @@ check_leaves v life opened knows goes = record {
 
 -- ---- publications of the generator
 
+from_all : (list begun : List Publication) (m : FileMap) → Stands m (list ++ begun) → StandsFrom list begun m
+from_all list begun m stands = record { first = begun; later = []; joined = sym (append-nil begun); stands = stands }
+
+from_but_last : (list begun : List Publication) (m : FileMap) → StandsButLast list begun m → StandsFrom list begun m
+from_but_last list begun m (with_all stands) = from_all list begun m stands
+from_but_last list begun m (but_last first last joined stands) =
+    record { first = first; later = last ∷ []; joined = joined; stands = stands }
+
 -- a run that is done has made all
 done_all : (inner result : Status) (old new : Option (List ℕ)) (list begun : List Publication) (m : FileMap)
     → EndsWith inner old new result → StandsMade inner list begun m → StandsKept list begun (where_done result begun) m
 done_all inner result old new list begun m ends stands = by (ends_as inner result old new ends)
   where
     any_from : (s : Status) → StandsMade s list begun m → StandsFrom list begun m
-    any_from Done stands = record {
-      first = begun;
-      later = [];
-      joined = sym (append-nil begun);
-      stands = stands;
-    }
-    any_from OutputFault stands = record {
-      first = begun;
-      later = [];
-      joined = sym (append-nil begun);
-      stands = stands;
-    }
-    any_from Memory stands = stands
-    any_from Usage stands = stands
-    any_from InputFault stands = stands
-    any_from StoreFault stands = stands
-    any_from (NotAStore version place) stands = stands
-    any_from TooLong stands = stands
-    any_from (Differs path) stands = stands
-    any_from (Refused limit) stands = stands
-    any_from (Damaged expected found) stands = stands
+    any_from Done stands = from_all list begun m stands
+    any_from OutputFault stands = from_all list begun m stands
+    any_from Memory stands = from_but_last list begun m stands
+    any_from Usage stands = from_but_last list begun m stands
+    any_from InputFault stands = from_but_last list begun m stands
+    any_from StoreFault stands = from_but_last list begun m stands
+    any_from (NotAStore version place) stands = from_but_last list begun m stands
+    any_from TooLong stands = from_but_last list begun m stands
+    any_from (Differs path) stands = from_but_last list begun m stands
+    any_from (Refused limit) stands = from_but_last list begun m stands
+    any_from (Damaged expected found) stands = from_but_last list begun m stands
 
     whole : (s : Status) → StandsMade s list begun m → StandsKept list begun (where_done s begun) m
     whole Done stands = kept_all list begun m stands
     whole OutputFault stands = kept_none list begun [] m refl (any_from OutputFault stands)
-    whole Memory stands = kept_none list begun [] m refl stands
-    whole Usage stands = kept_none list begun [] m refl stands
-    whole InputFault stands = kept_none list begun [] m refl stands
-    whole StoreFault stands = kept_none list begun [] m refl stands
-    whole (NotAStore version place) stands = kept_none list begun [] m refl stands
-    whole TooLong stands = kept_none list begun [] m refl stands
-    whole (Differs path) stands = kept_none list begun [] m refl stands
-    whole (Refused limit) stands = kept_none list begun [] m refl stands
-    whole (Damaged expected found) stands = kept_none list begun [] m refl stands
+    whole Memory stands = kept_none list begun [] m refl (any_from Memory stands)
+    whole Usage stands = kept_none list begun [] m refl (any_from Usage stands)
+    whole InputFault stands = kept_none list begun [] m refl (any_from InputFault stands)
+    whole StoreFault stands = kept_none list begun [] m refl (any_from StoreFault stands)
+    whole (NotAStore version place) stands = kept_none list begun [] m refl (any_from (NotAStore version place) stands)
+    whole TooLong stands = kept_none list begun [] m refl (any_from TooLong stands)
+    whole (Differs path) stands = kept_none list begun [] m refl (any_from (Differs path) stands)
+    whole (Refused limit) stands = kept_none list begun [] m refl (any_from (Refused limit) stands)
+    whole (Damaged expected found) stands = kept_none list begun [] m refl (any_from (Damaged expected found) stands)
 
     by : (result ≡ inner) ⊎ (result ≡ OutputFault) → StandsKept list begun (where_done result begun) m
     by (inl e) = subst (λ (s : Status). StandsKept list begun (where_done s begun) m) (sym e) (whole inner stands)
     by (inr e) = subst (λ (s : Status). StandsKept list begun (where_done s begun) m) (sym e)
         (kept_none list begun [] m refl (any_from inner stands))
 
-done_none : (result : Status) (begun : List Publication) → begun ≡ [] → where_done result begun ≡ []
+pub done_none : (result : Status) (begun : List Publication) → begun ≡ [] → where_done result begun ≡ []
 done_none Done begun none = none
 done_none Memory begun none = refl
 done_none Usage begun none = refl

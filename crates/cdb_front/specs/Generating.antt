@@ -13,7 +13,7 @@ use Rattle.cdb_model.specs.Text.{Text}
 use Rattle.cdb_files.specs.Disk as disk
 use Rattle.cdb_files.specs.Disk.{IsImage}
 use Rattle.cdb_generate.specs.Generated.{Generates, Summary, summary_text}
-use Rattle.cdb_engine.specs.Filling.{AreMade, StopsAfter}
+use Rattle.cdb_engine.specs.Filling.{AreMade, StopsAfter, StandsButLast}
 use Rattle.cdb_engine.specs.declared.errors.PopulateError.{PopulateError}
 use Rattle.cdb_engine.specs.declared.errors.PopulateError.TheVariants as populate
 use Rattle.cdb_front.specs.Beginning.{CountsRecords}
@@ -101,12 +101,12 @@ EndsMade list start count begun Left old new (Damaged expected found) = ⊥
 EndsMade list start count begun Left old new (NotAStore version place) = ⊥
 EndsMade list start count begun Left old new status = Unit {0}
 
--- what a crash leaves at the end of a run that opened the store: the list followed by the first of the publications
--- begun, and by all of them where all were made
+-- what a crash leaves at the end of a run that opened the store: the list followed by the publications begun, by all of
+-- them where all were made, and else by all but at most the last
 abbrev pub StandsMade : Status → List Publication → List Publication → FileMap → Type 0
 StandsMade Done list begun m = Stands m (list ++ begun)
 StandsMade OutputFault list begun m = Stands m (list ++ begun)
-StandsMade status list begun m = StandsFrom list begun m
+StandsMade status list begun m = StandsButLast list begun m
 
 -- whatever the status, the publications begun are the first of the generator's, and each crash since the run began
 -- leaves the list followed by the first of them; one of the early lists only up to the end of opening

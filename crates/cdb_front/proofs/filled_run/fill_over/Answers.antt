@@ -32,7 +32,6 @@ returns-in-Ok-say_made-clause-fills g c =
     c.in-Ok.ensures.fresh in
     fills_all D.tells D.state D.clock D.since c.args.disk.now c.open.new.disk c.populate.new.disk c.args.start
     c.args.count (g.O.Output.written c.args.output.now) (g.O.Output.written c.say_made.new.output)
-    (λ m later image. g.met.D.Disk.counts_now c.populate.new.disk (D.clock c.open.new.disk) m later image)
     c.in-Ok-populate.made (bare_of c.in-Ok.engine) last.next
     (begins_fresh D.tells (D.state c.args.disk.now).present (D.state c.open.new.disk).present c.in-Ok.engine
     c.in-Ok.ensures.fresh c.in-Ok.ensures.read) last.step
@@ -52,7 +51,6 @@ returns-in-Ok-populate-clause-fills g c =
     c.in-Ok.ensures.fresh in
     fills_torn D.tells D.state D.clock D.since c.args.disk.now c.open.new.disk c.populate.new.disk c.args.start
     c.args.count (g.O.Output.written c.args.output.now) (g.O.Output.written c.say_made.new.output)
-    (λ m later image. g.met.D.Disk.counts_now c.populate.new.disk (D.clock c.open.new.disk) m later image)
     c.in-Ok-populate.made (bare_of c.in-Ok.engine) last.next
     (begins_fresh D.tells (D.state c.args.disk.now).present (D.state c.open.new.disk).present c.in-Ok.engine
     c.in-Ok.ensures.fresh c.in-Ok.ensures.read) last.step
@@ -72,7 +70,6 @@ returns-clause-fills g c =
     c.in-Ok.ensures.fresh in
     fills_stopped D.tells D.state D.clock D.since c.args.disk.now c.open.new.disk c.populate.new.disk c.args.start
     c.args.count (g.O.Output.written c.args.output.now) (g.O.Output.written c.end-in-Err-populate.new.output)
-    (λ m later image. g.met.D.Disk.counts_now c.populate.new.disk (D.clock c.open.new.disk) m later image)
     c.in-Err-populate.error c.fill_status.result c.end-in-Err-populate.result c.fill_status.ensures.status
     (bare_of c.in-Ok.engine) last.next
     (begins_fresh D.tells (D.state c.args.disk.now).present (D.state c.open.new.disk).present c.in-Ok.engine
