@@ -1,15 +1,15 @@
--- The program over any number of runs of scripts, each over what a stop of the one before left, or without a stop on
+-- The program over any number of runs of any mode, each over what a stop of the one before left, or without a stop on
 -- the very disk that it left.
-use Rattle.std.specs.Prelude.{◌≡◌, ◌⊎◌, List, [], ◌∷◌, ◌++◌, Option, Some, Contains}
+use Rattle.std.specs.Prelude.{◌≡◌, ◌⊎◌, List, [], ◌∷◌, ◌++◌, Some, Contains}
 use Rattle.std.specs.List.{AllByRecursion}
-use Rattle.cdb_model.specs.Begun.{acknowledged}
 use Rattle.cdb_model.specs.Images.{Base}
 use Rattle.cdb_model.specs.Maps.{FileMap}
 use Rattle.cdb_model.specs.Publications.{Publication}
 use Rattle.cdb_crash.specs.Crash.{IsClear}
 use Rattle.cdb_files.specs.Disk.{IsImage}
 use Rattle.cdb_engine.specs.Store.{IsStore}
-use Rattle.cdb_front.specs.Headline.{Devices, Life, Knows, ReadsScript, Reopens, StopLeaves, amid, at_end}
+use Rattle.cdb_front.specs.Headline.{Devices, Life, Knows, Goes, AllMeet, Reopens, StopLeaves, amid, at_end}
+use Rattle.cdb_front.specs.Headline.{begun_in, acked_in}
 
 -- the next run begins on the disk as it was left, which is clear
 pub record StaysOn (v : Devices) (life next : Life v) : Type 0 where
@@ -29,17 +29,14 @@ base_for v list early life = record { list = list; early = early; moment = v.clo
 -- what a run acknowledged before a stop, or to its end. A stop within the run is one of another disk, whose calls fail
 -- from there on
 abbrev pub acked_at : (v : Devices) (life : Life v) (m : FileMap) (base : Base) → StopLeaves v life m
-    → ReadsScript v life (Some base)
-    → List Publication
-acked_at v life m base (amid since) goes = []
-acked_at v life m base (at_end image) goes =
-    acknowledged goes.outcome.run.begun goes.outcome.transcript.answers goes.outcome.transcript.wrote
+    → Knows v life (Some base) → Goes v life (Some base) → List Publication
+acked_at v life m base (amid since) knows goes = []
+acked_at v life m base (at_end image) knows goes = acked_in v life base life.task knows goes
 
 abbrev pub acked_by : (v : Devices) (life next : Life v) → Succeeds v life next → (base : Base)
-    → ReadsScript v life (Some base) → List Publication
-acked_by v life next (stopped r) base goes = acked_at v life r.m base r.stop goes
-acked_by v life next (unstopped s) base goes =
-    acknowledged goes.outcome.run.begun goes.outcome.transcript.answers goes.outcome.transcript.wrote
+    → Knows v life (Some base) → Goes v life (Some base) → List Publication
+acked_by v life next (stopped r) base knows goes = acked_at v life r.m base r.stop knows goes
+acked_by v life next (unstopped s) base knows goes = acked_in v life base life.task knows goes
 
 -- a list is the one that a run opened, followed by the first of the publications begun, with all that are to be kept
 pub record Extends (opened begun kept list : List Publication) : Type 0 where
@@ -70,9 +67,11 @@ pub record FindsLeft (v : Devices) (Before : List Publication → List (List Pub
   pub opened : List Publication
   pub others : List (List Publication)
   pub before : Before opened others
-  pub goes : ReadsScript v life (Some (base_for v opened others life))
-  pub each : AllByRecursion (MayLeave (base_for v opened others life) goes.outcome.run.begun
-      (acked_by v life next link (base_for v opened others life) goes)) (list ∷ early)
+  pub knows : Knows v life (Some (base_for v opened others life))
+  pub goes : Goes v life (Some (base_for v opened others life))
+  pub each : AllByRecursion (MayLeave (base_for v opened others life)
+      (begun_in v life (base_for v opened others life) life.task knows goes)
+      (acked_by v life next link (base_for v opened others life) knows goes)) (list ∷ early)
 
 -- the last one finds this store: the one at first, or one that the run before may leave
 abbrev pub FindsStore : (v : Devices) (list : List Publication) (early : List (List Publication)) (last : Life v)
@@ -88,7 +87,7 @@ abbrev pub HasAcked : (v : Devices) (list : List Publication) (early : List (Lis
     (others : List (List Publication)) → FindsStore v list early last earlier line now others → Publication → Type 0
 HasAcked v list early last [] line now others finds x = ⊥
 HasAcked v list early last (life ∷ earlier) line now others finds x =
-    Contains (acked_by v life last line.0 (base_for v finds.opened finds.others life) finds.goes) x
+    Contains (acked_by v life last line.0 (base_for v finds.opened finds.others life) finds.knows finds.goes) x
     ⊎ HasAcked v list early life earlier line.1 finds.opened finds.others finds.before x
 
 -- the last run finds a store, each list of which has every acknowledged publication; from there it goes on as the
@@ -101,18 +100,10 @@ pub record Carried (v : Devices) (list : List Publication) (early : List (List P
   pub every : (x : Publication) → HasAcked v list early last earlier line now others finds x
       → AllByRecursion (λ l. Contains l x) (now ∷ others)
   pub store : IsStore now others (v.state last.old)
-  pub goes : ReadsScript v last (Some (base_for v now others last))
-
--- each of them reads a script and is as the program promises
-abbrev pub MeetsScript : (v : Devices) → Life v → Type 0
-MeetsScript v life = (from : Option Base) → Knows v life from → ReadsScript v life from
-
-abbrev pub AllMeetScript : (v : Devices) → Life v → List (Life v) → Type 0
-AllMeetScript v last [] = MeetsScript v last
-AllMeetScript v last (life ∷ earlier) = MeetsScript v last × AllMeetScript v life earlier
+  pub goes : Goes v last (Some (base_for v now others last))
 
 -- over devices of which the disk tells what it holds
 abbrev pub Continues : Devices → Type 0
 Continues v = v.disk_tells → (list : List Publication) (early : List (List Publication)) (last : Life v)
-    (earlier : List (Life v)) (line : Succession v list early last earlier) → AllMeetScript v last earlier
+    (earlier : List (Life v)) (line : Succession v list early last earlier) → AllMeet v last earlier
     → Carried v list early last earlier line

@@ -40,8 +40,8 @@ pub fn fill_completeness<D: Disk, O: Output>(disk: &D, output: &O)
     ensures { CompletesFillOf D.tells D.state D.clock D.since D.fault_count O.written O.fault_count }
 {}
 
-/// Any number of runs, each over what a stop of the one before left or, where the disk is clear, on
-/// that very disk: each finds a store again, whose lists have every acknowledged publication.
+/// Any number of runs of any mode, each over what a stop of the one before left or, where the disk is
+/// clear, on that very disk: each finds a store again, whose lists have every acknowledged publication.
 pub fn continues<D: Disk, H: Shelf, I: Input, O: Output>(disk: &D, shelf: &H, input: &I, output: &O)
     ensures { Continues (devices_of D.tells D.state D.clock D.since D.fault_count H.tells H.files H.fault_count I.left
         I.failed_at I.fault_count O.written) }
