@@ -1,8 +1,10 @@
 #!/usr/bin/env bash
 # Times the program over real folders beside the same file calls with nothing computed, and prints one
 # table: a degree of an arc second published as version 1 (161 files), its compute alone, a patch of one
-# chain of tiles (36 files of tiles) over it and over a store of 4,000 versions, the opening of 4,096
-# versions with 999,424 entries, tiles asked for, and 12,381 touched tiles. What is compared takes turns. A
+# chain of tiles (36 files of tiles) over it and over a store of 4,000 versions, a check of that degree, the
+# opening of 4,096 versions with 999,424 entries, tiles asked for, and 12,381 touched tiles. What a tile that
+# is read takes more than one that is kept stands beside opening, reading and closing its file. What is
+# compared takes turns. A
 # row has the least time of all rounds and that of what stands beside it, the ratio of the two and that of
 # the medians, and the greatest memory of the program; with other work on the machine only the ratios say
 # anything. How often a publication calls the system is counted by time_publication.sh.
@@ -213,6 +215,18 @@ def floor(name, files):
     put(name, time.monotonic() - start)
 
 
+# Looks at each file of a store.
+def check(name, where, due):
+    start = time.monotonic()
+    child = subprocess.Popen([program, "--mode", "check"], cwd=where, stdout=subprocess.PIPE)
+    said = child.stdout.read()
+    _, status, usage = os.wait4(child.pid, 0)
+    child.returncode = status
+    if said != due or status != 0:
+        sys.exit(f"the check said {said!r}, not {due!r}")
+    put(name, time.monotonic() - start, usage.ru_maxrss / 1024)
+
+
 # The plain compute of the same posts.
 def plain(name):
     if not os.path.exists(folder + "/plain"):
@@ -230,6 +244,7 @@ def degree():
         publish("degree", full, DEGREE, 159)
         files = listing(full, 1)
         floor("degree floor", files)
+        check("check", full, b"agrees 1 %d\n" % len(files))
         shutil.rmtree(memory, ignore_errors=True)
         user = publish("degree in memory", memory, DEGREE, 159)
         put("compute", user, greatest["degree in memory"])
@@ -317,6 +332,17 @@ def concatenate(name, paths):
     put(name, (time.monotonic() - start) / len(paths))
 
 
+# The files opened, read and closed, with nothing written.
+def read(name, paths):
+    block = memoryview(bytearray(TILE_BYTES))
+    start = time.monotonic()
+    for path in paths:
+        at = os.open(path, os.O_RDONLY)
+        os.readv(at, [block])
+        os.close(at)
+    put(name, (time.monotonic() - start) / len(paths))
+
+
 # As many bytes through a pipe, from memory.
 def copy(name, paths):
     length = os.path.getsize(paths[0])
@@ -347,6 +373,8 @@ def tiles():
             concatenate(size + " cat", some * times)
             ask(size + " warm", some[:1] * len(some) * times)
             copy(size + " copy", some[:1] * len(some) * times)
+            put(size + " more", seconds[size + " cold"][-1] - seconds[size + " warm"][-1])
+            read(size + " read", some * times)
 
 
 def touched():
@@ -385,12 +413,14 @@ print(f"{'':<58}{'least, ms':>10}{'beside':>10}{'ratio':>8}{'medians':>8}{'MiB':
 show("a degree published, beside its file calls alone", "degree", "degree floor")
 show("a degree published in memory, beside the plain compute", "degree in memory", "compute plain")
 show("its compute alone (user time), beside the plain compute", "compute", "compute plain")
+show("a check of the degree's store, beside its publication", "check", "degree")
 show("a patch, beside its file calls alone", "patch", "patch floor")
 show("a patch over 4,000 versions, beside its file calls alone", "deep patch", "patch floor")
 show("a patch over 4,000 versions, beside one over the degree", "deep patch", "patch")
 show("999,424 entries of 4,096 versions opened, beside reading", "opening", "opening read")
 show("a tile of 2 MB read, beside cat", "large cold", "large cat")
 show("a tile of 2 MB kept, beside a copy to the pipe", "large warm", "large copy")
+show("what it takes more than one kept, beside reading alone", "large more", "large read")
 show("a small tile read, beside cat", "small cold", "small cat")
 show("a small tile kept, beside a copy to the pipe", "small warm", "small copy")
 show("a publication of 12,381 tiles begun", "touched")
