@@ -5,6 +5,7 @@ pub mod Plain
 pub mod ChildPlaces
 pub mod OneTile
 pub mod OneTileWhole
+pub mod KeptParts
 pub mod Raised
 pub mod AxisLaws
 pub mod WindowLaws
@@ -13,7 +14,6 @@ pub mod RowRules
 pub mod PaintedRows
 pub mod ReducedLaws
 pub mod PaintLaws
-pub mod FillLaws
 pub mod WindowTests
 pub mod FinerTiles
 pub mod FrameStarts

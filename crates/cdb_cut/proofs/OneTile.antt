@@ -1,11 +1,11 @@
 -- One tile made from frames has the values of its sources.
-use Rattle.std.proofs.Common.{◌≡◌, ℕ, ◌+◌, ◌-◌, ◌*◌, ◌/◌, ◌<◌, ◌⊎◌, inl, inr, ℤ, Bool, true, false, cond, List, [], ◌∷◌, ◌++◌, All, Option, Some, None, refl, sym, ap, ap₂, ◌∙◌, subst, arith}
+use Rattle.std.proofs.Common.{◌≡◌, ℕ, ◌+◌, ◌-◌, ◌*◌, ◌/◌, ◌<◌, ◌⊎◌, inl, inr, ℤ, Bool, true, false, cond, List, [], ◌∷◌, ◌++◌, length, All, Option, Some, None, refl, sym, ap, ap₂, ◌∙◌, subst, arith}
 use Rattle.std.specs.Prelude.{int_lt}
 use Rattle.std.specs.Option.{option_or}
 use Rattle.std.proofs.lemmas.List.Elements.{All-push}
 use Rattle.cdb_grid.specs.Grid.{Place, beside}
 use Rattle.cdb_grid.specs.Tiles.{tile_height, tile_side, element_corner, IsInTile}
-use Rattle.cdb_grid.specs.Frames.{number_at, IsPartChanged, four_under}
+use Rattle.cdb_grid.specs.Frames.{number_at, IsBeside, IsPartChanged, four_under}
 use Rattle.cdb_grid.specs.declared.family.Family.{Family}
 use Rattle.cdb_grid.specs.declared.family.Family.TheVariants.{Elev, Low, High, Mat}
 use Rattle.cdb_grid.specs.declared.tile.Tile.{Tile}
@@ -156,7 +156,7 @@ module _ (ss : List Source) (t : Tile) (start : ℕ → ℕ → Option ℤ) (c :
   height_is = let e = height-under c t at.parent in omega arith
 
   -- the values of the finer tile under an element of the part
-  child_value : (r q i j : ℕ) → r < half → q < half → i < 2 → j < 2
+  pub child_value : (r q i j : ℕ) → r < half → q < half → i < 2 → j < 2
       → tile_value ss c (2 * r + i) (2 * q + j)
       ≡ family_value f ss h (beside h (element_corner t (row + r) (col + q)) i j)
   child_value r q i j rl ql il jl =
@@ -215,6 +215,34 @@ module _ (ss : List Source) (t : Tile) (start : ℕ → ℕ → Option ℤ) (c :
   beside_folded done old new r q same out (inr e) =
       inr (same ∙ e.0, All-push (λ d. IsInTile d (element_corner t r q) → ⊥) done c e.1 out)
 
+  -- a finer tile is folded where each number of its part comes to be so, and the rest stays
+  pub part_folded : (done : List Tile) (old new : List ℤ) → length new ≡ length old
+      → ((x y : ℕ) → x < half → y < half → Folded done old (row + x) (col + y)
+      → Folded (done ++ c ∷ []) new (row + x) (col + y))
+      → ((r q : ℕ) → r < tile_side t → q < tile_side t → (IsBeside row half r) ⊎ (IsBeside col half q)
+      → number_at new (tile_side t) r q ≡ number_at old (tile_side t) r q)
+      → IsFolded ss t start done old → IsFolded ss t start (done ++ c ∷ []) new
+  part_folded done old new size part rest before = record {
+    size = size ∙ before.size;
+    each = λ r q rl ql. elim (part_or_beside c t row col at.parent at.begins r q) [
+      | inl p ↦ inside r q p (before.each r q rl ql)
+      | inr b ↦ beside_folded done old new r q (rest r q rl ql b)
+          (beside_out c t row col at.parent at.begins r q b) (before.each r q rl ql)
+    ];
+  }
+    where
+      at_place : (r q x y : ℕ) → row + x ≡ r → col + y ≡ q → x < half → y < half → Folded done old r q
+          → Folded (done ++ c ∷ []) new r q
+      at_place r q x y er eq xl yl was =
+          subst (λ a. Folded (done ++ c ∷ []) new a q) er (subst (λ b. Folded (done ++ c ∷ []) new (row + x) b) eq
+          (part x y xl yl
+          (subst (λ a. Folded done old a (col + y)) (sym er) (subst (λ b. Folded done old r b) (sym eq) was))))
+
+      inside : (r q : ℕ) → InPart c t row col at.parent at.begins r q → Folded done old r q
+          → Folded (done ++ c ∷ []) new r q
+      inside r q p was = let s = p.south in let n = p.north in let w = p.west in let e = p.east in
+          at_place r q (r - row) (q - col) (omega arith) (omega arith) (omega arith) (omega arith) was
+
   -- in the part the number is joined with what stands under it
   in_folded : (starts : (r q : ℕ) → IsPlain k (start r q)) (child : List ℤ) → IsFrameOf ss c child
       → (done : List Tile) (old new : List ℤ) (r q : ℕ) → r < half → q < half
@@ -236,38 +264,32 @@ module _ (ss : List Source) (t : Tile) (start : ℕ → ℕ → Option ℤ) (c :
       → IsFolded ss t start done old → IsPartChanged (four_under (four_rule f) child (tile_side c)) row col half half
       (tile_side t) old new
       → IsFolded ss t start (done ++ c ∷ []) new
-  fold_child starts child of done old new before changed = record {
-    size = changed.size ∙ before.size;
-    each = λ r q rl ql. elim (part_or_beside c t row col at.parent at.begins r q) [
-      | inl p ↦ inside r q p (before.each r q rl ql)
-      | inr b ↦ beside_folded done old new r q (changed.rest r q rl ql b)
-          (beside_out c t row col at.parent at.begins r q b) (before.each r q rl ql)
-    ];
-  }
-    where
-      at_place : (r q x y : ℕ) → row + x ≡ r → col + y ≡ q → x < half → y < half → Folded done old r q
-          → Folded (done ++ c ∷ []) new r q
-      at_place r q x y er eq xl yl was =
-          subst (λ a. Folded (done ++ c ∷ []) new a q) er (subst (λ b. Folded (done ++ c ∷ []) new (row + x) b) eq
-          (in_folded starts child of done old new x y xl yl (changed.changed x y xl yl)
-          (subst (λ a. Folded done old a (col + y)) (sym er) (subst (λ b. Folded done old r b) (sym eq) was))))
+  fold_child starts child of done old new before changed =
+      part_folded done old new changed.size
+      (λ x y xl yl was. in_folded starts child of done old new x y xl yl (changed.changed x y xl yl) was)
+      changed.rest before
 
-      inside : (r q : ℕ) → InPart c t row col at.parent at.begins r q → Folded done old r q
-          → Folded (done ++ c ∷ []) new r q
-      inside r q p was = let s = p.south in let n = p.north in let w = p.west in let e = p.east in
-          at_place r q (r - row) (q - col) (omega arith) (omega arith) (omega arith) (omega arith) was
+  -- where what stands under the part changes nothing, the number stays
+  stays_folded : (done : List Tile) (frame : List ℤ) (r q : ℕ) → full r q ≡ start r q → Folded done frame r q
+      → Folded (done ++ c ∷ []) frame r q
+  stays_folded done frame r q idle (inl e) = inl e
+  stays_folded done frame r q idle (inr e) = inl (e.0 ∙ ap (coded k) (sym idle))
+
+  -- a finer tile under which there is nothing to fold
+  pub still_child : ((r q : ℕ) → r < half → q < half → full (row + r) (col + q) ≡ start (row + r) (col + q))
+      → (done : List Tile) (frame : List ℤ)
+      → IsFolded ss t start done frame → IsFolded ss t start (done ++ c ∷ []) frame
+  still_child idle done frame before =
+      part_folded done frame frame refl
+      (λ x y xl yl was. stays_folded done frame (row + x) (col + y) (idle x y xl yl) was)
+      (λ r q rl ql b. refl) before
 
   -- a finer tile that no source reaches has nothing to fold
   pub miss_child : All (λ (s : Source). Reaches s.head c → ⊥) ss → (done : List Tile) (frame : List ℤ)
       → IsFolded ss t start done frame → IsFolded ss t start (done ++ c ∷ []) frame
-  miss_child none done frame before = record {
-    size = before.size;
-    each = λ r q rl ql. elim (part_or_beside c t row col at.parent at.begins r q) [
-      | inl p ↦ inside r q p (before.each r q rl ql)
-      | inr b ↦ beside_folded done frame frame r q refl (beside_out c t row col at.parent at.begins r q b)
-          (before.each r q rl ql)
-    ];
-  }
+  miss_child none =
+      still_child (λ r q rl ql. ap (joined_value f (start (row + r) (col + q))) (nothing_under r q rl ql)
+      ∙ joined_none f (start (row + r) (col + q)))
     where
       empty : (r q i j : ℕ) → r < half → q < half → i < 2 → j < 2
           → family_value f ss h (beside h (element_corner t (row + r) (col + q)) i j) ≡ None
@@ -279,24 +301,3 @@ module _ (ss : List Source) (t : Tile) (start : ℕ → ℕ → Option ℤ) (c :
       nothing_under r q rl ql = let z : 0 < 2 = omega arith in let o : 1 < 2 = omega arith in
           four_none f _ _ _ _ (empty r q 0 0 rl ql z z) (empty r q 0 1 rl ql z o) (empty r q 1 0 rl ql o z)
           (empty r q 1 1 rl ql o o)
-
-      whole_at : (x y : ℕ) → x < half → y < half → Folded done frame (row + x) (col + y)
-          → Folded (done ++ c ∷ []) frame (row + x) (col + y)
-      whole_at x y xl yl (inl e) = inl e
-      whole_at x y xl yl (inr e) =
-          inl (e.0
-          ∙ ap (coded k)
-          (sym (ap (joined_value f (start (row + x) (col + y))) (nothing_under x y xl yl)
-          ∙ joined_none f (start (row + x) (col + y)))))
-
-      at_place : (r q x y : ℕ) → row + x ≡ r → col + y ≡ q → x < half → y < half → Folded done frame r q
-          → Folded (done ++ c ∷ []) frame r q
-      at_place r q x y er eq xl yl was =
-          subst (λ a. Folded (done ++ c ∷ []) frame a q) er (subst (λ b. Folded (done ++ c ∷ []) frame (row + x) b) eq
-          (whole_at x y xl yl
-          (subst (λ a. Folded done frame a (col + y)) (sym er) (subst (λ b. Folded done frame r b) (sym eq) was))))
-
-      inside : (r q : ℕ) → InPart c t row col at.parent at.begins r q → Folded done frame r q
-          → Folded (done ++ c ∷ []) frame r q
-      inside r q p was = let s = p.south in let n = p.north in let w = p.west in let e = p.east in
-          at_place r q (r - row) (q - col) (omega arith) (omega arith) (omega arith) (omega arith) was

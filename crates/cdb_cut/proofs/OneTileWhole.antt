@@ -119,7 +119,7 @@ folded_finest ss t start frame finest folded = record {
         (family-zero t.family ss (beside 0 C 0 1)) (family-zero t.family ss (beside 0 C 1 0))
         (family-zero t.family ss (beside 0 C 1 1))
 
-height-suc : (t : Tile) → tile_height t ≡ suc (finer_height t)
+pub height-suc : (t : Tile) → tile_height t ≡ suc (finer_height t)
 height-suc t = let l = height-least t.level.number t.level.finest in omega arith
 
 low-suc : (ss : List Source) (h : ℕ) (c : Place) → low_of ss (suc h) c
@@ -133,7 +133,7 @@ unfolding high
 high-suc ss h c = refl
 
 -- the least, and the greatest, elevations are then whole
-extreme_by : (f : Family) (ss : List Source) (h : ℕ) (c : Place) → (f ≡ Low) ⊎ (f ≡ High)
+pub extreme_by : (f : Family) (ss : List Source) (h : ℕ) (c : Place) → (f ≡ Low) ⊎ (f ≡ High)
     → joined_value f (elevation_of ss (suc h) c) (under f ss h c) ≡ family_value f ss (suc h) c
 extreme_by f ss h c (inl e) = rw e (sym (low-suc ss h c))
 extreme_by f ss h c (inr e) = rw e (sym (high-suc ss h c))
@@ -170,7 +170,7 @@ own_here Material Material m h o e f = let t : nat_eq m h ≡ true = grind (arit
 own_here Elevation Material m h o e f = absurd (cc)
 own_here Material Elevation m h o e f = absurd (cc)
 
-own_apart : (k j : Kind) (m h : ℕ) (o : Option ℤ) → (k ≡ j → m ≡ h → o ≡ None)
+pub own_apart : (k j : Kind) (m h : ℕ) (o : Option ℤ) → (k ≡ j → m ≡ h → o ≡ None)
     → cond (same_kind k j && nat_eq m h) o None ≡ None
 own_apart Elevation Material m h o none = refl
 own_apart Material Elevation m h o none = refl
@@ -305,7 +305,7 @@ three_by f ss ts h c (inr e) = rw e
     (option_or (newest_own Material (map sampled ts) (suc h) (centre (suc h) c)) (material_of ss (suc h) c)))
     (sym (map-append sampled ss ts)))
 
-whole_value : (ss ts : List Source) (t : Tile) → (t.family ≡ Elev) ⊎ (t.family ≡ Mat) → (row col : ℕ)
+pub whole_value : (ss ts : List Source) (t : Tile) → (t.family ≡ Elev) ⊎ (t.family ≡ Mat) → (row col : ℕ)
     → tile_value (ss ++ ts) t row col
     ≡ option_or (under t.family (ss ++ ts) (finer_height t) (element_corner t row col))
     (option_or (newest_own (kind_of t.family) (map sampled ts) (tile_height t) (element_place t row col))
@@ -358,7 +358,7 @@ no_older ss ts t frame family none before = record {
 
 -- ---- all sources of exactly the tile's level, without an older tile
 
-suc_by : (f : Family) (ss : List Source) (h : ℕ) (c : Place) → (f ≡ Elev) ⊎ (f ≡ Mat)
+pub suc_by : (f : Family) (ss : List Source) (h : ℕ) (c : Place) → (f ≡ Elev) ⊎ (f ≡ Mat)
     → family_value f ss (suc h) c
     ≡ option_or (under f ss h c) (newest_own (kind_of f) (map sampled ss) (suc h) (place_in f (suc h) c))
 suc_by f ss h c (inl e) = rw e

@@ -1,5 +1,5 @@
 -- Definitions that functions inside the crate cite, and no public contract.
 pub mod Blend
-pub mod OneTile
+pub mod Copied
 pub mod Painted
 pub mod Parts

@@ -4,7 +4,7 @@
 mod average;
 mod axis;
 mod blend;
-mod filling;
+mod copying;
 mod folding;
 pub mod laws;
 mod paint_rows;
@@ -15,7 +15,7 @@ mod source_rows;
 mod tile_part;
 mod walk;
 
-pub use filling::{fill, or_older};
+pub use copying::copy_part;
 pub use folding::{clear, elevation_tile, fold};
 pub use painting::paint;
 pub use sampling::{sample, sample_at};

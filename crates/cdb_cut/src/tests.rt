@@ -1,7 +1,7 @@
 ghost use Rattle.std.specs.Prelude.{◌≡◌, ◌≤◌, length};
 
 use super::*;
-use cdb_grid::{Arc, Level};
+use cdb_grid::{Arc, Level, Spot};
 use cdb_source::{Kind, Source, SourceHead, SourceMaker};
 use std::alloc::Global;
 use std::test::Fail;
@@ -190,5 +190,15 @@ fn points_beyond_the_globe(rt: HostRuntime) -> Result<(), Fail> {
     assert_eq!(rt; sample(&source, south, west), Some(6));
     assert_eq!(rt; sample(&source, beyond, west), None);
     assert_eq!(rt; sample(&source, south, further), None);
+    Ok(())
+}
+
+/// A part of a frame of four rows, the south row first, and the frame into which it is copied.
+#[test]
+fn a_part_of_a_frame(rt: HostRuntime) -> Result<(), Fail> {
+    let from = [1, 2, 3, 4, 5, 6, 7, 8, 9, 10, 11, 12, 13, 14, 15, 16];
+    let mut frame = [0; 16];
+    copy_part(&from, Spot { row: 1, col: 2 }, 2, &mut frame, 4);
+    assert_eq!(rt; frame, [0, 0, 0, 0, 0, 0, 7, 8, 0, 0, 11, 12, 0, 0, 0, 0]);
     Ok(())
 }

@@ -1,7 +1,10 @@
 //! The file of an older tile, where a frame has no value.
 ghost use Rattle.std.specs.Prelude.{◌≡◌, ◌+◌, ◌-◌, ◌*◌, ◌≤◌, ◌==◌, ◌||◌, IsTrue, length};
+ghost use Rattle.std.specs.Option.{option_or};
 ghost use Rattle.cdb_grid.specs.Frames.{IsRowChanged};
 ghost use Rattle.cdb_grid.specs.Tiles.{tile_side};
+ghost use Rattle.cdb_source.specs.Posts.{none_of, coded};
+ghost use Rattle.cdb_source.specs.Sample.{value_of};
 ghost use Rattle.cdb_model.specs.TileFile.{bits_of};
 ghost use Rattle.cdb_cut.specs.OneTile.{IsFilled};
 ghost use Rattle.cdb_tiff_write.specs.Rasters.{tile_size};
@@ -11,7 +14,6 @@ ghost use Rattle.cdb_model.specs.declared.limits.TheConstants.{MOST_TILE_VALUES,
 
 use crate::samples::{octet_sample, short_sample};
 use crate::size::bits;
-use cdb_cut::or_older;
 use cdb_grid::{RowRule, Spot, Tile, change_part, side};
 use cdb_source::{Kind, kind_of};
 
@@ -23,6 +25,14 @@ struct OlderFile<'a> {
     side: usize,
     bits: u8,
     ghost known: { IsTrue (bits == 8 || bits == 16) },
+}
+
+/// The number of a frame where it has a value, else the older one. `none` stands for no value.
+fn or_older(kind: Kind, none: i16, own: i16, older: i16) -> i16
+    requires { none ≡ none_of kind }
+    ensures { result ≡ coded kind (option_or (value_of kind own) (value_of kind older)) }
+{
+    if own == none { older } else { own }
 }
 
 /// Fills a row from samples of two bytes. The row begins at this number of a sample.
