@@ -8,7 +8,7 @@ use Rattle.cdb_engine.specs.declared.errors.AdvanceError.TheVariants as advance
 use Rattle.cdb_engine.specs.declared.errors.PopulateError.{PopulateError}
 use Rattle.cdb_engine.specs.declared.errors.PopulateError.TheVariants as populate
 
--- a file that a step reads
+-- a file that a step needs
 abbrev pub StepFindsOther : AdvanceError → Type 0
 StepFindsOther (advance.Damaged expected found) = found ≢ Some expected
 StepFindsOther _ = Unit {0}

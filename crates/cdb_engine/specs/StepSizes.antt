@@ -1,4 +1,4 @@
--- What the answer of a step tells of the files that the step reads.
+-- What the answer of a step tells of the files that the step needs.
 use Rattle.std.specs.Prelude.{◌≡◌, ℕ, ◌<◌, List, Some, Result, IfErr}
 use Rattle.cdb_manifest.specs.declared.record_.Record.{Record}
 use Rattle.cdb_model.specs.Maps.{FileMap}
@@ -13,7 +13,7 @@ use Rattle.cdb_publish.specs.declared.work.Work.{Work}
 use Rattle.cdb_engine.specs.StoreAnswers.{advance_of}
 use Rattle.cdb_engine.specs.declared.errors.AdvanceError.{AdvanceError}
 
--- It is that of the publication's step. Where the disk tells, a file is damaged exactly where one that the step reads
+-- It is that of the publication's step. Where the disk tells, a file is damaged exactly where one that it needs
 -- isn't there or has another size, and the sizes are those of the first such file. The last step reads no file.
 pub record TellsStep (Tells : Type 0) (present : FileMap) (work : Publication) (records : List Record)
     (before after : ℕ) (result : Result Progress AdvanceError) : Type 0 where

@@ -141,7 +141,7 @@ impl Engine {
 
     /// Makes the next step of the publication that is going. `Halted` comes first: a step of this
     /// opening failed or found a file damaged. Then `Nothing`: none is going. `Fault` only where a
-    /// call of the disk failed, and `Damaged` exactly where a file that the step reads isn't there or has
+    /// call of the disk failed, and `Damaged` exactly where a file that the step needs isn't there or has
     /// another size than its form gives, with the sizes of the first such file: the publication is given
     /// up then, and the writer halted at the count of failed calls that the disk tells. It takes no memory.
     /// A step that is refused makes no call of the disk, and the last step reads no file.

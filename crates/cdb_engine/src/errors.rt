@@ -92,7 +92,7 @@ pub enum AdvanceError {
     Nothing,
     /// A call of the disk failed.
     Fault,
-    /// A file that the step reads has another size than its form gives, or isn't there.
+    /// A file that the step needs has another size than its form gives, or isn't there.
     Damaged { expected: u64, found: Option<u64> },
 }
 

@@ -7,6 +7,7 @@ pub mod FrameLaws
 pub mod HeadRuns
 pub mod LookLaws
 pub mod MidLaws
+pub mod OlderParts
 pub mod PlanBegins
 pub mod PlanNumbers
 pub mod ReadBounds

@@ -191,6 +191,7 @@ pub mid_has_files : (bytes : BytesByReaching) (p : Plan) (kept : List Record) (P
     → HasFilesFor p kept s.present (sources_of P) x t children
 mid_has_files bytes p kept P x number s t children plans are here mid at those = record {
   heads = plans.heads;
+  touched = plans.touched;
   children_named = λ k d l. named bytes p kept P x number s plans are here mid (get_or children k d)
       (λ i there. precedes p.record.tiles i number (get_or children k d) t plans.touched.ordered there at
       (child_before (get_or children k d) t (parents t children those k d l)));

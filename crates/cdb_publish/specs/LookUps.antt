@@ -1,6 +1,7 @@
 -- Where the newest file of a tile stands, and what stands there.
 use Rattle.std.specs.Prelude.{ℕ, ◌-◌, if◌then◌else◌, List, [], ◌∷◌}
-use Rattle.std.specs.Prelude.{◌++◌, Option, Some, None}
+use Rattle.std.specs.Prelude.{Option, Some, None}
+use Rattle.std.specs.List.{flat_map}
 use Rattle.cdb_grid.specs.declared.tile.Tile.{Tile}
 use Rattle.cdb_model.specs.Names.{path}
 use Rattle.cdb_manifest.specs.declared.record_.Record.{Record}
@@ -16,12 +17,11 @@ look_before p kept t = found_in (p.record.version - 1) kept t
 abbrev pub look : Plan → List Record → Tile → Option ℕ
 look p kept t = if is_listed p.record.tiles t then Some p.record.version else look_before p kept t
 
--- What is to be read of a tile of which a look-up gave this.
+-- The file of a tile of which a look-up gave this.
 abbrev pub needs_of : Tile → Option ℕ → List Need
 needs_of t None = []
 needs_of t (Some version) = record { path = path version t; size = tile_size t } ∷ []
 
--- What is to be read of the finer tiles under a tile.
+-- The files of the finer tiles under a tile.
 abbrev pub child_needs : Plan → List Record → List Tile → List Need
-child_needs p kept [] = []
-child_needs p kept (c ∷ items) = needs_of c (look p kept c) ++ child_needs p kept items
+child_needs p kept children = flat_map (λ c. needs_of c (look p kept c)) children

@@ -1,10 +1,10 @@
--- The files that a step reads, and the first of them that has another size.
+-- The files that a step needs, and the first of them that has another size.
 use Rattle.std.specs.Prelude.{◌≡◌, ◌≢◌, ℕ, ◌⊎◌, List, [], ◌∷◌, Option, Some, Result, Ok, Err}
 use Rattle.cdb_model.specs.Maps.{Text, FileMap, size_of}
 use Rattle.cdb_publish.specs.declared.errors.StepError.{StepError}
 use Rattle.cdb_publish.specs.declared.errors.StepError.TheVariants.{Fault, Damaged}
 
--- A file that is to be read, and the size that its form gives.
+-- A file, and the size that its form gives.
 pub record Need : Type 0 where
   pub path : Text
   pub size : ℕ

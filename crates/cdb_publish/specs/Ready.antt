@@ -6,7 +6,8 @@ use Rattle.cdb_publish.specs.declared.frames.Frames.{Frames}
 use Rattle.cdb_publish.specs.declared.plan.Plan.{Plan}
 use Rattle.cdb_model.specs.declared.limits.TheConstants.{MOST_TILE_BYTES, MOST_TILE_VALUES}
 
--- The frames are long enough for each tile of a plan, and for the rows of its sources that each takes.
+-- The frames are long enough for each tile of a plan, the earlier one too, and for the rows of its sources that each
+-- takes.
 pub record IsReady (p : Plan) (f : Frames) : Type 0 where
   pub bytes : MOST_TILE_BYTES ≤ length f.bytes.items
   pub posts : MOST_TILE_VALUES ≤ length f.posts.items

@@ -10,8 +10,8 @@ use Rattle.cdb_publish.specs.Needs.{Need}
 use Rattle.cdb_publish.specs.Windows.{window_needs}
 use Rattle.cdb_publish.specs.declared.plan.Plan.{Plan}
 
--- What is to be read for a tile of elevations or of materials: its finer tiles, the new sources of its level, and the
--- tile before it. For one of least or greatest elevations: the elevations of the same cells, and its finer tiles.
+-- The files that a tile of elevations or of materials needs: its finer tiles, the new sources of its level, and the
+-- tile before it. One of least or greatest elevations: the elevations of the same cells, and its finer tiles.
 abbrev pub own_needs : Plan → List Record → Tile → List Tile → List Need
 own_needs p kept t children = child_needs p kept children ++
     (window_needs p.record.version 1 p.record.heads t ++ needs_of t (look_before p kept t))
@@ -25,7 +25,7 @@ family_needs Low p kept t children = extreme_needs p kept t children
 family_needs High p kept t children = extreme_needs p kept t children
 family_needs Mat p kept t children = own_needs p kept t children
 
--- A fact of the files that a tile is made from.
+-- A fact of the files that a tile needs.
 pub record TileNeeds (p : Plan) (kept : List Record) (t : Tile) (Fact : List Need → Type 0) : Type 0 where
   pub children : List Tile
   pub those : AreChildren t children

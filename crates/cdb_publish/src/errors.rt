@@ -17,7 +17,7 @@ pub enum StepError {
     /// A call of the disk failed.
     #[error("a call of the disk failed")]
     Fault,
-    /// A file that the step reads has another size than its form gives, or isn't there.
+    /// A file that the step needs has another size than its form gives, or isn't there.
     #[error("a file that should have {expected} bytes has another size, or isn't there")]
     Damaged { expected: u64, found: Option<u64> },
 }

@@ -5,6 +5,6 @@ pub struct Frames {
     pub(crate) bytes: Vec<u8>,
     /// The values of a tile, the south row first.
     pub(crate) posts: Vec<i16>,
-    /// The posts of these rows.
+    /// The posts of these rows, or the values of the earlier tile.
     pub(crate) scratch: Vec<i16>,
 }

@@ -75,9 +75,9 @@ impl Publication {
     /// Makes the next step: of a source, a tile, a folder, the record, or, as the last one, the head. `Ok`
     /// takes one from the steps left, and says `Published` exactly where it was the last one.
     ///
-    /// `Fault` comes only where a call of the disk failed. `Damaged` comes exactly where a file that the
-    /// step reads isn't there or has another length than its form gives, with the lengths in bytes of the
-    /// first such file; nothing is written then. After an error as many steps are left as before, and
+    /// `Fault` comes only where a call of the disk failed. `Damaged` comes exactly where a file that it
+    /// needs isn't there or has another length than its form gives, with the lengths in bytes of the first
+    /// such file; nothing is written then. After an error as many steps are left as before, and
     /// nothing is promised of making them: the publication is given up.
     pub fn step<D: Disk>(&mut self, chain: &mut Chain, disk: &mut D) -> Result<Progress, StepError>
         requires left { 0 < left_of self.old }

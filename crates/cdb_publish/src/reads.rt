@@ -4,9 +4,27 @@ ghost use Rattle.cdb_model.specs.Maps.{HasAt};
 ghost use Rattle.cdb_files.specs.Moments.{Rests};
 ghost use Rattle.cdb_publish.specs.Causes.{IsCaused};
 ghost use Rattle.cdb_publish.specs.Needs.{TellsSizes, IsDamage};
+ghost use Rattle.cdb_publish.specs.inside.Needs.{IsUnread};
 
 use crate::errors::StepError;
 use cdb_files::{Disk, Path, ReadSize, read_whole};
+
+/// Whether a file has the size that its form gives.
+pub(crate) fn check_size<D: Disk>(disk: &mut D, path: &Path, expected: u64) -> Result<(), StepError>
+    ensures sizes { D.tells → TellsSizes (D.state disk.old).present
+        (record { path = path.now.bytes; size = expected } ∷ []) result }
+    ensures damage { IfErr result IsDamage }
+    ensures state { D.state disk.new ≡ D.state disk.old }
+    ensures time { Rests (D.clock disk.old) (D.clock disk.new) (D.since disk.old) (D.since disk.new) }
+    ensures cause { IsCaused (D.fault_count disk.old) (D.fault_count disk.new) result }
+    ensures reads { D.read_count disk.new ≡ D.read_count disk.old }
+{
+    let found = disk.size(path)?;
+    if found != Some(expected) {
+        return Err(StepError::Damaged { expected, found });
+    }
+    Ok(())
+}
 
 /// Reads a whole file of a known size.
 pub(crate) fn read_sized<D: Disk>(
@@ -22,6 +40,7 @@ pub(crate) fn read_sized<D: Disk>(
     ensures time { Rests (D.clock disk.old) (D.clock disk.new) (D.since disk.old) (D.since disk.new) }
     ensures cause { IsCaused (D.fault_count disk.old) (D.fault_count disk.new) result }
     ensures reads { D.read_count disk.new ≤ D.read_count disk.old + 1 }
+    ensures unread { IfErr result (IsUnread (D.read_count disk.old) (D.read_count disk.new)) }
 {
     let expected = into.len() as u64;
     match read_whole(disk, path, into) {
@@ -49,9 +68,9 @@ pub(crate) fn read_part<D: Disk>(
     ensures cause { IsCaused (D.fault_count disk.old) (D.fault_count disk.new) result }
     ensures reads { D.read_count disk.new ≤ D.read_count disk.old + 1 }
 {
-    let found = disk.size(path)?;
-    if found != Some(expected) {
-        return Err(StepError::Damaged { expected, found });
+    match check_size(disk, path, expected) {
+        Ok(()) => {}
+        Err(error) => return Err(error),
     }
     disk.read_at(path, at, into)?;
     Ok(())

@@ -24,9 +24,9 @@ use cdb_files::Disk;
 use cdb_grid::{children, side};
 use cdb_tiff_write::{put_file, tile_size};
 
-/// Makes the file of the tile of this number at the front of `bytes`, and answers its length. `bytes` and
-/// `frame` have room for the largest tile, and `bytes` and `scratch` for the rows of each source that the
-/// tile takes.
+/// Makes the file of the tile of this number at the front of `bytes`, and answers its length. `bytes`,
+/// `scratch` and `frame` have room for the largest tile, and `bytes` and `scratch` for the rows of each
+/// source that the tile takes.
 pub(crate) fn make_tile<D: Disk>(
     plan: &Plan,
     number: usize,
@@ -39,6 +39,7 @@ pub(crate) fn make_tile<D: Disk>(
     requires number { number < length plan.now.record.tiles }
     requires bytes { MOST_TILE_BYTES ≤ length bytes.old }
     requires frame { MOST_TILE_VALUES ≤ length frame.old }
+    requires scratch { MOST_TILE_VALUES ≤ length scratch.old }
     requires room { (t : grid.Tile) → slice_get plan.now.record.tiles number ≡ Some t
         → HasRoom plan.now.record.heads t (length scratch.old) }
     requires row_bytes { 2 * length scratch.old ≤ length bytes.old }

@@ -12,10 +12,11 @@ ghost use Rattle.cdb_publish.specs.Causes.{IsCaused};
 ghost use Rattle.cdb_publish.specs.LookUps.{needs_of};
 ghost use Rattle.cdb_publish.specs.inside.LookUps.{IsNamed, IsReadFile};
 ghost use Rattle.cdb_publish.specs.Needs.{TellsSizes, IsDamage};
+ghost use Rattle.cdb_publish.specs.inside.Needs.{IsUnread};
 ghost use Rattle.cdb_model.specs.declared.limits.TheConstants.{MOST_TILE_BYTES, MOST_VERSIONS};
 
 use crate::errors::StepError;
-use crate::reads::read_sized;
+use crate::reads::{check_size, read_sized};
 use cdb_files::Disk;
 use cdb_grid::{Tile, side};
 use cdb_names::write_path;
@@ -39,6 +40,7 @@ fn read_version<D: Disk>(
     ensures time { Rests (D.clock disk.old) (D.clock disk.new) (D.since disk.old) (D.since disk.new) }
     ensures cause { IsCaused (D.fault_count disk.old) (D.fault_count disk.new) result }
     ensures reads { D.read_count disk.new ≤ D.read_count disk.old + 1 }
+    ensures unread { IfErr result (IsUnread (D.read_count disk.old) (D.read_count disk.new)) }
 {
     let path = write_path(version, tile);
     read_sized(disk, &path, bytes)
@@ -65,6 +67,7 @@ pub(crate) fn read_tile<D: Disk>(
     ensures time { Rests (D.clock disk.old) (D.clock disk.new) (D.since disk.old) (D.since disk.new) }
     ensures cause { IsCaused (D.fault_count disk.old) (D.fault_count disk.new) result }
     ensures reads { D.read_count disk.new ≤ D.read_count disk.old + 1 }
+    ensures unread { IfErr result (IsUnread (D.read_count disk.old) (D.read_count disk.new)) }
 {
     let bytes = &mut bytes[..tile_size(tile)];
     match read_version(version, tile, bytes, disk) {
@@ -102,4 +105,26 @@ pub(crate) fn read_named<D: Disk>(
         Ok(()) => Ok(true),
         Err(error) => Err(error),
     }
+}
+
+/// Whether the file of the tile that a look-up named, where it named one, has its size.
+pub(crate) fn check_named<D: Disk>(
+    version: Option<u32>,
+    tile: &Tile,
+    disk: &mut D,
+) -> Result<(), StepError>
+    requires least { IfSome version (λ v. 1 ≤ v) }
+    requires most { IfSome version (λ v. v ≤ MOST_VERSIONS) }
+    ensures sizes { D.tells → TellsSizes (D.state disk.old).present (needs_of tile.now version) result }
+    ensures damage { IfErr result IsDamage }
+    ensures state { D.state disk.new ≡ D.state disk.old }
+    ensures time { Rests (D.clock disk.old) (D.clock disk.new) (D.since disk.old) (D.since disk.new) }
+    ensures cause { IsCaused (D.fault_count disk.old) (D.fault_count disk.new) result }
+    ensures reads { D.read_count disk.new ≡ D.read_count disk.old }
+{
+    let Some(version) = version else {
+        return Ok(());
+    };
+    let path = write_path(version, tile);
+    check_size(disk, &path, tile_size(tile) as u64)
 }

@@ -2,6 +2,7 @@
 use Rattle.std.specs.Prelude.{◌≡◌, List, ◌++◌, All, Some}
 use Rattle.cdb_grid.specs.declared.tile.Tile.{Tile}
 use Rattle.cdb_source.specs.declared.source.Source.{Source}
+use Rattle.cdb_source.specs.Reached.{IsTouched}
 use Rattle.cdb_model.specs.Publications.{heads_of}
 use Rattle.cdb_model.specs.Maps.{FileMap}
 use Rattle.cdb_model.specs.Names.{path}
@@ -18,6 +19,7 @@ use Rattle.cdb_publish.specs.declared.plan.Plan.{Plan}
 pub record HasFilesFor (p : Plan) (kept : List Record) (m : FileMap) (ss x : List Source) (t : Tile)
     (children : List Tile) : Type 0 where
   pub heads : p.record.heads ≡ heads_of x
+  pub touched : IsTouched (heads_of x) p.record.tiles
   pub children_named : All (λ c. IsNamed m (ss ++ x) c (look p kept c)) children
   pub sources : HasSources m p.record.version x
   pub older : IsNamed m ss t (look_before p kept t)
