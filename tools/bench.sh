@@ -4,10 +4,9 @@
 # chain of tiles (36 files of tiles) over it and over a store of 4,000 versions, a check of that degree, the
 # opening of 4,096 versions with 999,424 entries, tiles asked for, and 12,381 touched tiles. What a tile that
 # is read takes more than one that is kept stands beside opening, reading and closing its file. What is
-# compared takes turns. A
-# row has the least time of all rounds and that of what stands beside it, the ratio of the two and that of
-# the medians, and the greatest memory of the program; with other work on the machine only the ratios say
-# anything. How often a publication calls the system is counted by time_publication.sh.
+# compared takes turns. A row has the least time of all rounds and that of what stands beside it, the ratio
+# of the two and that of the medians, and the greatest memory of the program; with other work on the machine
+# only the ratios say anything. How often a publication calls the system is counted by time_publication.sh.
 #
 #   bench.sh [PROGRAM [ROUNDS]]
 #
