@@ -10,6 +10,7 @@ use Rattle.cdb_publish.specs.LookUps.{child_needs, needs_of, look, look_before}
 use Rattle.cdb_publish.specs.inside.Older.{folded_needs, IsKept}
 use Rattle.cdb_publish.specs.Needs.{Need}
 use Rattle.cdb_publish.specs.declared.plan.Plan.{Plan}
+use Rattle.cdb_publish.proofs.FewNeeds.{one_need}
 
 -- what all of them give is what those before gave, what this one gives, and the rest
 pub needs_at : (f : Tile → List Need) (items : List Tile) (k : ℕ) (c : Tile) → k < length items → c ≡ get_or items k c
@@ -91,16 +92,12 @@ pub folded_fewer : (p : Plan) (kept : List Record) (items : List Tile) → Any (
 folded_fewer p kept items (k, x, l, at, is) = kept_fewer p kept items k x l at is
 
 -- where the earlier tile is read in place of one that is kept, no more is read than all finer tiles
-one_file : (t : Tile) (o : Option ℕ) → length (needs_of t o) ≤ 1
-one_file t None = omega arith
-one_file t (Some v) = omega arith
-
 pub older_fewer : (p : Plan) (kept : List Record) (t : Tile) (items : List Tile) → Any (IsKept p kept) items
     → (found : Bool) (before now : ℕ) → now ≤ before + length (needs_of t (look_before p kept t))
     → (found ≡ false → now ≤ before)
     → now + length (flat_map (folded_needs found p kept) items) ≤ before + length (child_needs p kept items)
 older_fewer p kept t items any true before now most unread =
-    omega (arith, most, one_file t (look_before p kept t), folded_fewer p kept items any)
+    omega (arith, most, one_need t (look_before p kept t), folded_fewer p kept items any)
 older_fewer p kept t items any false before now most unread =
     omega (arith, unread refl, folded_all p kept items)
 
@@ -108,4 +105,4 @@ pub older_most : (p : Plan) (kept : List Record) (t : Tile) (items : List Tile) 
     → (before now : ℕ) → now ≤ before + length (needs_of t (look_before p kept t))
     → now ≤ before + length (child_needs p kept items)
 older_most p kept t items any before now most =
-    omega (arith, most, one_file t (look_before p kept t), folded_fewer p kept items any)
+    omega (arith, most, one_need t (look_before p kept t), folded_fewer p kept items any)

@@ -32,7 +32,7 @@ few_children t items are = by t.level.number are.none are.one are.four t.level.f
           let e : length items ≡ 0 = ap length (none (ap pos s)) in omega arith
     ]
 
-one_need : (t : Tile) (o : Option ℕ) → length (needs_of t o) ≤ 1
+pub one_need : (t : Tile) (o : Option ℕ) → length (needs_of t o) ≤ 1
 one_need t None = omega arith
 one_need t (Some v) = omega arith
 
