@@ -6,8 +6,6 @@ pub mod laws;
 mod open_error;
 mod opening;
 mod place;
-#[cfg(test)]
-mod tests;
 
 pub use chain::Chain;
 pub use open_error::OpenError;

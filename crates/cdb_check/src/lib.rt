@@ -6,14 +6,10 @@ mod compare;
 mod files;
 mod kept;
 pub mod laws;
-#[cfg(test)]
-mod made_tests;
 mod making;
 mod outcome;
 mod painting;
 mod room;
-#[cfg(test)]
-mod tests;
 mod versions;
 
 pub use outcome::{Agreed, CheckError};

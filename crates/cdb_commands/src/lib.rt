@@ -8,16 +8,12 @@ mod given;
 mod head;
 mod laws;
 mod numbers;
-#[cfg(test)]
-mod option_tests;
 mod options;
 mod parsed;
 mod path;
 mod posts;
 mod reading;
 mod sources;
-#[cfg(test)]
-mod tests;
 mod words;
 mod words_error;
 

@@ -20,8 +20,3 @@ pub use folding::{clear, elevation_tile, fold};
 pub use painting::paint;
 pub use sampling::{sample, sample_at};
 pub use source_rows::{Rows, window};
-
-#[cfg(test)]
-mod tests;
-#[cfg(test)]
-mod tile_tests;

@@ -39,6 +39,3 @@ pub fn fold(child: &[i16], child_side: u32, spot: Spot, frame: &mut [i16], frame
 {
     fold_four(&EvenPosts, child, child_side, spot, frame, frame_side);
 }
-
-#[cfg(test)]
-mod tests;

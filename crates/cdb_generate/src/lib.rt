@@ -6,8 +6,6 @@ mod heads;
 pub mod laws;
 mod sources;
 mod sums;
-#[cfg(test)]
-mod tests;
 
 pub use draws::draw;
 pub use sources::draw_publication;

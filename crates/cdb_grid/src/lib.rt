@@ -13,8 +13,6 @@ mod locate;
 mod part;
 mod pyramid;
 mod spot;
-#[cfg(test)]
-mod tests;
 mod tile;
 pub mod units;
 mod zone;

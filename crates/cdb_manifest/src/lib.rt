@@ -17,6 +17,3 @@ pub use head_file::{read_head, write_head};
 pub use limits::{MOST_SOURCES, RECORD_BYTES};
 pub use record_::{Heads, Record, Tiles};
 pub use record_error::RecordError;
-
-#[cfg(test)]
-mod tests;

@@ -12,8 +12,6 @@ mod schedule;
 mod shelf;
 mod standing;
 mod standings;
-#[cfg(test)]
-mod tests;
 
 pub use fuse::Fuse;
 pub use mem_disk::MemDisk;

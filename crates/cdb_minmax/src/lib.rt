@@ -123,6 +123,3 @@ pub fn fold_high(child: &[i16], child_side: u32, spot: Spot, frame: &mut [i16], 
 {
     fold_four(&Greatest, child, child_side, spot, frame, frame_side);
 }
-
-#[cfg(test)]
-mod tests;

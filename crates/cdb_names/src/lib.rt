@@ -21,6 +21,3 @@ pub use paths::{
 pub use reading::read_name;
 pub use root_paths::{head_path, new_head_path, root_folder};
 pub use writing::write_name;
-
-#[cfg(test)]
-mod tests;

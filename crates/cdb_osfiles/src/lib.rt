@@ -11,8 +11,6 @@ mod listing;
 mod os_disk;
 mod os_shelf;
 mod place;
-#[cfg(test)]
-mod tests;
 
 pub use os_disk::OsDisk;
 pub use os_shelf::OsShelf;

@@ -7,8 +7,6 @@ mod clearing;
 mod head;
 mod recover_error;
 mod recovery;
-#[cfg(test)]
-mod tests;
 
 pub use recover_error::RecoverError;
 pub use recovery::recover;

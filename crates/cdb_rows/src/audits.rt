@@ -9,7 +9,7 @@ use std::alloc::Global;
 use std::test::Fail;
 
 /// Scripts, and what a check writes over the store that each leaves: how many versions and files agree.
-static AGREEING: [(&[u8], &[u8]); 6] = [
+static AGREEING: [(&[u8], &[u8]); 7] = [
     (b"", b"agrees 0 0\n"),
     // The record, the source and three tiles.
     (
@@ -28,6 +28,11 @@ static AGREEING: [(&[u8], &[u8]); 6] = [
     (
         b"inline mat -9 46 7 1/2 1/2 2 2 3 5 5 3\npublish\nstep all\ninline mat -9 46 7 1/2 1/2 2 2 0 0 0 7\ninline mat -10 46 7 1 1 1 1 9\npublish\nstep all\n",
         b"agrees 2 9\n",
+    ),
+    // Sources of three levels, with and without values, one over the other: six of them, and twelve tiles.
+    (
+        b"inline elev -10 46 7 1/2 1/2 2 2 1 2 3 4\ninline elev -8 185/4 29/4 1/4 1/4 2 2 -32768 700 -50 9\ninline elev -9 46 7 1/2 1/2 2 2 30 -32768 10 20\ninline mat -10 46 7 1/2 1/2 2 2 0 5 6 7\ninline mat -8 185/4 7 1/4 1/4 2 2 8 9 9 0\ninline mat -8 93/2 29/4 1/4 1/4 2 2 11 11 12 0\npublish\nstep all\n",
+        b"agrees 1 19\n",
     ),
     // No tile.
     (

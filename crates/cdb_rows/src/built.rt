@@ -79,7 +79,7 @@ fn count_built(
 static FOLDERS: [(u32, &str); 2] = [(1, "V00000001"), (2, "V00000002")];
 
 /// Publications, and how many tiles each of the two versions has.
-static BUILT: [(&[u8], [usize; 2]); 5] = [
+static BUILT: [(&[u8], [usize; 2]); 6] = [
     // One tile of each family at two levels, and a coarser source after it.
     (
         b"inline elev -9 46 7 1/2 1/2 2 2 30 40 10 20\npublish\nstep all\ninline elev -10 46 7 1 1 1 1 99\npublish\nstep all\n",
@@ -99,6 +99,11 @@ static BUILT: [(&[u8], [usize; 2]); 5] = [
     (
         b"inline elev -10 50 7 1 1 1 1 5\npublish\nstep all\ninline mat -10 50 8 1 2 1 1 5\npublish\nstep all\n",
         [0, 1],
+    ),
+    // Sources of three levels, with and without values, one over the other.
+    (
+        b"inline elev -10 46 7 1/2 1/2 2 2 1 2 3 4\ninline elev -8 185/4 29/4 1/4 1/4 2 2 -32768 700 -50 9\ninline elev -9 46 7 1/2 1/2 2 2 30 -32768 10 20\ninline mat -10 46 7 1/2 1/2 2 2 0 5 6 7\ninline mat -8 185/4 7 1/4 1/4 2 2 8 9 9 0\ninline mat -8 93/2 29/4 1/4 1/4 2 2 11 11 12 0\npublish\nstep all\n",
+        [12, 0],
     ),
     // One post of the finest level, and a coarser one around it.
     (

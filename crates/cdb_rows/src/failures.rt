@@ -1,9 +1,9 @@
 //! A single call of a device that fails.
 
-use crate::script::{BY_HAND, HEAD, PIECES, is_joined, new_disk, run_in_pieces};
+use crate::script::{BY_HAND, HEAD, PIECES, is_joined, new_disk, run_in_pieces, run_over};
 use crate::store::path;
 use crate::tiff::LITTLE;
-use cdb_front::{MemInput, MemOutput, Status, cdb_run};
+use cdb_front::{MemInput, MemOutput, Status};
 use cdb_memfiles::MemShelf;
 use std::alloc::Global;
 use std::collections::BTreeMap;
@@ -168,7 +168,7 @@ fn is_failing(alloc: Global, row: &Failing) -> Result<bool, Fail> {
     writes.push(row.write)?;
     let mut input = MemInput::new(Vec::from_slice(alloc, row.script)?, 4096, reads);
     let mut output = MemOutput::new(alloc, writes);
-    let status = cdb_run(
+    let status = run_over(
         alloc,
         &BY_HAND,
         &mut disk,

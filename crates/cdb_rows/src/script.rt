@@ -46,6 +46,18 @@ pub fn new_disk(alloc: Global, fails: u64) -> Result<MemDisk, Fail> {
     Ok(MemDisk::new(alloc, calls))
 }
 
+/// The top call. The tests above it need none of its contract.
+pub fn run_over<D: Disk>(
+    alloc: Global,
+    words: &[&str],
+    disk: &mut D,
+    shelf: &mut MemShelf,
+    input: &mut MemInput,
+    output: &mut MemOutput,
+) -> Status {
+    cdb_run(alloc, words, disk, shelf, input, output)
+}
+
 /// Runs a script over the disk and an empty shelf.
 pub fn run<D: Disk>(
     alloc: Global,
@@ -72,7 +84,7 @@ pub fn run_in_pieces<D: Disk>(
     let mut shelf = MemShelf::new(BTreeMap::new(alloc), Vec::new(alloc));
     let mut input = MemInput::new(Vec::from_slice(alloc, script)?, piece.max(1), reads);
     let mut output = MemOutput::new(alloc, writes);
-    let status = cdb_run(alloc, &BY_HAND, disk, &mut shelf, &mut input, &mut output);
+    let status = run_over(alloc, &BY_HAND, disk, &mut shelf, &mut input, &mut output);
     Ok((status, output))
 }
 
@@ -86,7 +98,7 @@ pub fn run_with<D: Disk>(
 ) -> Result<(Status, MemOutput), Fail> {
     let mut input = MemInput::new(Vec::from_slice(alloc, script)?, 4096, Vec::new(alloc));
     let mut output = MemOutput::new(alloc, Vec::new(alloc));
-    let status = cdb_run(alloc, words, disk, shelf, &mut input, &mut output);
+    let status = run_over(alloc, words, disk, shelf, &mut input, &mut output);
     Ok((status, output))
 }
 

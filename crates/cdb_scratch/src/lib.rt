@@ -7,7 +7,5 @@ mod frame;
 mod material;
 mod places;
 mod reach;
-#[cfg(test)]
-mod tests;
 
 pub use frame::build;

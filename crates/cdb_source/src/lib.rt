@@ -28,8 +28,3 @@ pub use maker::{Range, SourceMaker};
 pub use posts::Posts;
 pub use runs::decode_posts;
 pub use source::Source;
-
-#[cfg(test)]
-mod file_tests;
-#[cfg(test)]
-mod tests;

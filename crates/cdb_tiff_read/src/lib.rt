@@ -15,6 +15,3 @@ pub use cdb_tiff_base::{Entry, Order, TiffCause, TiffError};
 pub use image::Image;
 pub use reader::open;
 pub use samples::row;
-
-#[cfg(test)]
-mod tests;

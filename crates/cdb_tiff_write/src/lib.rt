@@ -18,6 +18,3 @@ pub use reading::posts_of;
 pub use size::{bits, tile_size};
 pub use tile_file::put_file;
 pub use tile_head::head;
-
-#[cfg(test)]
-mod tests;

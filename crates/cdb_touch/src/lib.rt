@@ -8,8 +8,6 @@ mod heights;
 mod loads;
 mod reach;
 mod rectangle;
-#[cfg(test)]
-mod tests;
 mod tiles;
 mod touch;
 
