@@ -1,6 +1,5 @@
 pub mod FindLaws
 pub mod FoundLaws
-pub mod Lists
 pub mod LookLaws
 pub mod OpeningLaws
 pub mod PlaceLaws

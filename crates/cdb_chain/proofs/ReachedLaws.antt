@@ -5,7 +5,7 @@ use Rattle.std.proofs.Common.{arith}
 use Rattle.std.specs.Prelude.{All}
 use Rattle.std.proofs.lemmas.List.{take-append-drop}
 use Rattle.std.proofs.lemmas.Grind.{flat_map-append}
-use Rattle.std.proofs.lemmas.Option.{get_or_from_slice_get}
+use Rattle.std.proofs.lemmas.Option.{get_or_from_slice_get, same_Some, slice_get_within, none-some}
 use Rattle.cdb_grid.specs.declared.tile.Tile.{Tile}
 use Rattle.cdb_source.specs.Reached.{Reached, Reaches}
 use Rattle.cdb_source.specs.declared.head.SourceHead.{SourceHead}
@@ -19,7 +19,7 @@ use Rattle.cdb_model.specs.TileFile.{tile_bytes}
 use Rattle.cdb_manifest.specs.declared.record_.Record.{Record}
 use Rattle.cdb_chain.specs.Versions.{Versions, HasTile, IsNewest, IsFound}
 use Rattle.cdb_chain.specs.Publications.{AreRecords, HasVersions, MeetsSources, LookUpsMeetSources, LookUpsNameFiles}
-use Rattle.cdb_chain.proofs.Lists.{none_some, some_is, some_at, in_range, at_place, in_take, to_take, Split, split}
+use Rattle.cdb_source.proofs.Lists.{some_at, at_place, in_take, to_take, Split, split}
 
 -- ---- sources of publications
 
@@ -37,7 +37,7 @@ module _ (t : Tile) where
     where
       at : (xs : List Source) (n : ℕ) → slice_get (heads_of xs) n ≡ Some r.head → slice_get (heads_of (xs ++ ys)) n
           ≡ Some r.head
-      at [] n e = none_some r.head e
+      at [] n e = absurd (none-some r.head e)
       at (x ∷ xs) zero e = e
       at (x ∷ xs) (suc n) e = at xs n e
 
@@ -61,7 +61,7 @@ module _ (t : Tile) where
 
   -- one of the publications has the source
   from_all : (P : List (List Source)) → Reached (heads_of (sources_of P)) t → ReachedBy P t
-  from_all [] r = none_some r.head r.there
+  from_all [] r = absurd (none-some r.head r.there)
   from_all (x ∷ P) r = elim (either_reached x (sources_of P) r.number r.head r.there r.reaches) [
     | inl here ↦ record { number = zero; sources = x; at = refl; reached = here }
     | inr more ↦ let b = from_all P more in
@@ -72,9 +72,9 @@ module _ (t : Tile) where
   to_all P b = at P b.number b.at
     where
       at : (P : List (List Source)) (n : ℕ) → slice_get P n ≡ Some b.sources → Reached (heads_of (sources_of P)) t
-      at [] n e = none_some b.sources e
+      at [] n e = absurd (none-some b.sources e)
       at (x ∷ P) zero e =
-          first_reached x (sources_of P) (subst (λ z. Reached (heads_of z) t) (some_is b.sources x (sym e)) b.reached)
+          first_reached x (sources_of P) (subst (λ z. Reached (heads_of z) t) (same_Some b.sources x (sym e)) b.reached)
       at (x ∷ P) (suc n) e = later_reached x (sources_of P) (at P n e)
 
   -- no source of a list reaches the tile
@@ -103,7 +103,7 @@ module _ (records : List Record) (P : List (List Source)) (are : AreRecords reco
       let k = has.among.0 in
       let at : slice_get records k ≡ Some has.item = at_place records has.item has.among in
       let number : v ≡ k + 1 = sym has.version_is ∙ are.versions k has.item at in
-      let x = some_at P k (omega (arith, in_range records k has.item at, are.count)) in (
+      let x = some_at P k (omega (arith, slice_get_within records k has.item at, are.count)) in (
         record {
           number = k;
           sources = x.0;
@@ -117,11 +117,15 @@ module _ (records : List Record) (P : List (List Source)) (are : AreRecords reco
   version_of : (b : ReachedBy (take version P) t) → (b.number + 1 ≤ version) × HasTile records (b.number + 1) t
   version_of b =
       let i = in_take version P b.number b.sources b.at in
-      let r = some_at records b.number (omega (arith, in_range P b.number b.sources i.1, are.count)) in (
+      let r = some_at records b.number (omega (arith, slice_get_within P b.number b.sources i.1, are.count)) in (
         omega (arith, i.0),
         record {
           item = r.0;
-          among = (b.number, in_range records b.number r.0 r.1, get_or_from_slice_get records b.number r.0 r.0 r.1);
+          among = (
+            b.number,
+            slice_get_within records b.number r.0 r.1,
+            get_or_from_slice_get records b.number r.0 r.0 r.1,
+          );
           version_is = are.versions b.number r.0 r.1;
           listed = ((are.tiles b.number r.0 b.sources r.1 i.1).exact t).1 b.reached;
         },
@@ -175,7 +179,7 @@ module _ (records : List Record) (P : List (List Source)) (are : AreRecords reco
 pub meets_sources : LookUpsMeetSources
 meets_sources chain P version tile found are is = meets chain.records P are version tile chain.spare found is
 
-newest_of : (chain : Versions) (version : ℕ) (t : Tile) (found : ℕ) → IsFound chain version t (Some found)
+pub newest_of : (chain : Versions) (version : ℕ) (t : Tile) (found : ℕ) → IsFound chain version t (Some found)
     → IsNewest chain.records version t found
 unfolding IsFound
 newest_of chain version t found is = is

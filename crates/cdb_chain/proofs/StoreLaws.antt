@@ -2,8 +2,7 @@
 use Rattle.std.proofs.Common.{◌≡◌, ℕ, ◌+◌, ◌<◌, ◌≤◌, inl, inr, List, [], ◌∷◌, ◌++◌, length, slice_get}
 use Rattle.std.proofs.Common.{get_or, Some, Result, Ok, Err, refl, sym, ap, ◌∙◌, subst, arith}
 use Rattle.std.proofs.Common.{length-append}
-use Rattle.std.proofs.lemmas.List.{length-map}
-use Rattle.std.proofs.lemmas.Option.{slice_get-get_or}
+use Rattle.std.proofs.lemmas.Option.{slice_get-get_or, same_Some, slice_get_within}
 use Rattle.cdb_grid.specs.declared.tile.Tile.{Tile}
 use Rattle.cdb_source.specs.Reached.{IsTouched}
 use Rattle.cdb_source.specs.declared.head.SourceHead.{SourceHead}
@@ -17,22 +16,20 @@ use Rattle.cdb_model.specs.Stands.{IsPublication, ArePublications, HasVersion, I
 use Rattle.cdb_manifest.specs.Entries.{IsRecord}
 use Rattle.cdb_manifest.specs.Records.{record_bytes}
 use Rattle.cdb_manifest.specs.declared.record_.Record.{Record}
-use Rattle.cdb_manifest.proofs.DecodingLaws.{gives}
+use Rattle.cdb_manifest.proofs.DecodingLaws.{one_record}
 use Rattle.cdb_manifest.proofs.PlaceLaws.{length-heads_text, length-entries_text, no_bad}
+use Rattle.cdb_manifest.proofs.PublicationLaws.{heads-length}
 use Rattle.cdb_chain.specs.Versions.{Versions}
 use Rattle.cdb_chain.specs.Opening.{AreRead, IsBadRecord, IsFirstBad, IsOpenedFrom}
 use Rattle.cdb_chain.specs.Publications.{AreRecords, OpensTo}
 use Rattle.cdb_chain.specs.declared.open_error.OpenError.{OpenError}
 use Rattle.cdb_chain.specs.declared.open_error.OpenError.TheVariants.{Memory, Fault, NotAStore}
-use Rattle.cdb_chain.proofs.Lists.{some_is, some_at, in_range, Split, split, AtEnd, at_end}
+use Rattle.cdb_source.proofs.Lists.{some_at, Split, split, AtEnd, at_end}
 
 -- ---- the record of a publication
 
 abbrev item_of : (version : ℕ) (heads : List SourceHead) (tiles : List Tile) → IsRecord version heads tiles → Record
 item_of version heads tiles facts = record { version = version; heads = heads; tiles = tiles; in_range = facts }
-
-heads-length : (sources : List Source) → length (heads_of sources) ≡ length sources
-heads-length sources = length-map sources (λ (s : Source). s.head)
 
 facts_of : (version : ℕ) (sources : List Source) (tiles : List Tile) → 1 ≤ version → version ≤ 4096
     → IsPublication sources → IsTouched (heads_of sources) tiles → IsRecord version (heads_of sources) tiles
@@ -48,10 +45,6 @@ facts_of version sources tiles least most publication touched =
       tiles_most = omega (arith, few, publication.fits);
       ordered = touched.ordered;
     }
-
--- records of the same text are one
-one_record : (a b : Record) → record_bytes a ≡ record_bytes b → a ≡ b
-one_record a b e = gives (record_bytes a) (Ok a) refl tt b e
 
 -- the text isn't too long
 short_text : (item : Record) → length (record_bytes item) ≤ 264980
@@ -77,11 +70,12 @@ pub record IsRecordAt (present : FileMap) (k : ℕ) (x : List Source) (item : Re
 
 publication_at : (P : List (List Source)) (k : ℕ) (x : List Source) → ArePublications P → slice_get P k ≡ Some x
     → IsPublication x
-publication_at P k x all at = let lt = in_range P k x at in subst IsPublication (value P k x lt at) (all.each k x lt)
+publication_at P k x all at =
+    let lt = slice_get_within P k x at in subst IsPublication (value P k x lt at) (all.each k x lt)
   where
     value : (P : List (List Source)) (k : ℕ) (x : List Source) → k < length P → slice_get P k ≡ Some x
         → get_or P k x ≡ x
-    value P k x lt at = some_is (get_or P k x) x (sym (slice_get-get_or P k x lt) ∙ at)
+    value P k x lt at = same_Some (get_or P k x) x (sym (slice_get-get_or P k x lt) ∙ at)
 
 pub item_at : (present : FileMap) (P : List (List Source)) (k : ℕ) (x : List Source) → Stands present P
     → slice_get P k ≡ Some x → (item : Record) × IsRecordAt present k x item
@@ -90,7 +84,7 @@ item_at present P k x stands at = of (split P k x at)
     of : Split P k x → (item : Record) × IsRecordAt present k x item
     of s =
         let v : HasVersion present s.earlier x = stands.versions s.earlier x s.later s.is in
-        let most : k + 1 ≤ 4096 = omega (arith, in_range P k x at, stands.publications.few) in
+        let most : k + 1 ≤ 4096 = omega (arith, slice_get_within P k x at, stands.publications.few) in
         let facts = facts_of (k + 1) x v.tiles (omega arith) most (publication_at P k x stands.publications at)
         v.touched in
         let T : ℕ → Type 0 = λ n. present (record_path (n + 1)) ≡ Some (record_text (n + 1) (heads_of x) v.tiles) in (
@@ -125,7 +119,7 @@ module _ (Tells : Type 0) (told : Tells) (present : FileMap) (P : List (List Sou
       of : (item : Record) × IsRecordAt present k x item → (r.heads ≡ heads_of x) × IsTouched (heads_of x) r.tiles
       of (item, is) =
           let texts : record_bytes r ≡ record_bytes item =
-          some_is (record_bytes r) (record_bytes item) (sym (read.told told k r at) ∙ is.there) in
+          same_Some (record_bytes r) (record_bytes item) (sym (read.told told k r at) ∙ is.there) in
           let same : r ≡ item = one_record r item texts in (
             ap (λ (q : Record). q.heads) same
                 ∙ is.heads,
@@ -168,16 +162,20 @@ module _ (records : List Record) (P : List (List Source)) (x : List Source) (nex
 
   heads_at : (k : ℕ) (r : Record) (y : List Source) → AtEnd records next k r → AtEnd P x k y → r.heads ≡ heads_of y
   heads_at k r y (AtEnd.before at) (AtEnd.before there) = are.heads k r y at there
-  heads_at k r y (AtEnd.before at) (AtEnd.last end is) = absurd (omega (arith, in_range records k r at, end, are.count))
-  heads_at k r y (AtEnd.last end is) (AtEnd.before there) = absurd (omega (arith, in_range P k y there, end, are.count))
+  heads_at k r y (AtEnd.before at) (AtEnd.last end is) =
+      absurd (omega (arith, slice_get_within records k r at, end, are.count))
+  heads_at k r y (AtEnd.last end is) (AtEnd.before there) =
+      absurd (omega (arith, slice_get_within P k y there, end, are.count))
   heads_at k r y (AtEnd.last end is) (AtEnd.last end' is') = ap (λ (o : Record). o.heads) (sym is) ∙ heads
       ∙ ap heads_of is'
 
   tiles_at : (k : ℕ) (r : Record) (y : List Source) → AtEnd records next k r → AtEnd P x k y
       → IsTouched (heads_of y) r.tiles
   tiles_at k r y (AtEnd.before at) (AtEnd.before there) = are.tiles k r y at there
-  tiles_at k r y (AtEnd.before at) (AtEnd.last end is) = absurd (omega (arith, in_range records k r at, end, are.count))
-  tiles_at k r y (AtEnd.last end is) (AtEnd.before there) = absurd (omega (arith, in_range P k y there, end, are.count))
+  tiles_at k r y (AtEnd.before at) (AtEnd.last end is) =
+      absurd (omega (arith, slice_get_within records k r at, end, are.count))
+  tiles_at k r y (AtEnd.last end is) (AtEnd.before there) =
+      absurd (omega (arith, slice_get_within P k y there, end, are.count))
   tiles_at k r y (AtEnd.last end is) (AtEnd.last end' is') =
       subst (λ (o : Record). IsTouched (heads_of y) o.tiles) is
       (subst (λ (z : List Source). IsTouched (heads_of z) next.tiles) is' touched)

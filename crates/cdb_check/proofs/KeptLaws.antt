@@ -6,11 +6,12 @@ use Rattle.std.proofs.lemmas.List.{append_assoc, append-nil, length-append, leng
 use Rattle.std.proofs.lemmas.List.Elements.{Contains-append_left, Contains-append_right, Contains-append_cases}
 use Rattle.std.proofs.lemmas.Option.{same_Some, none-some}
 use Rattle.cdb_grid.specs.declared.tile.Tile.{Tile}
-use Rattle.cdb_source.proofs.OnceLaws.{in_one, not_in_none}
+use Rattle.cdb_source.proofs.OnceLaws.{in_one}
 use Rattle.cdb_source.specs.Reached.{IsTouched, IsLoad}
 use Rattle.cdb_source.specs.Texts.{source_text}
 use Rattle.cdb_source.specs.declared.head.SourceHead.{SourceHead}
 use Rattle.cdb_source.specs.declared.source.Source.{Source}
+use Rattle.cdb_source.proofs.Lists.{not_in_none}
 use Rattle.cdb_model.specs.Maps.{Text, FileMap}
 use Rattle.cdb_model.specs.Names.{record_path, source_path, path}
 use Rattle.cdb_model.specs.Records.{record_text}

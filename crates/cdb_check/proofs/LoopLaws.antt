@@ -16,15 +16,8 @@ use Rattle.cdb_check.specs.Outcome.{FirstDiffering, OnlyReads}
 use Rattle.cdb_check.specs.inside.Outcome.{Judges, GivesFile, IsAt}
 use Rattle.cdb_check.specs.declared.outcome.CheckError.{CheckError}
 use Rattle.cdb_check.specs.declared.outcome.CheckError.TheVariants.{Memory, Fault, Differs}
-use Rattle.cdb_files.specs.Moments.{Rests}
+use Rattle.cdb_files.proofs.MomentLaws.{rests_then}
 use Rattle.cdb_check.proofs.ExpectedLaws.{met_next, stopped_at, file_at, spell_more, early, onward, all_source_files}
-
-rests_on : (a b c : ℕ) (r s t : ℕ → FileMap → Type 0) → Rests a b r s → Rests b c s t → Rests a c r t
-rests_on a b c r s t x y = record {
-  same = y.same ∙ x.same;
-  nothing_else = λ k m h. x.nothing_else k m (y.nothing_else k m h);
-  keeps = λ k m h. y.keeps k m (x.keeps k m h);
-}
 
 pub looks_on : {D : Type 0} (clock : D → ℕ) (since : D → ℕ → FileMap → Type 0) (holds : D → State) (faults : D → ℕ)
     (a b c : D)
@@ -32,7 +25,7 @@ pub looks_on : {D : Type 0} (clock : D → ℕ) (since : D → ℕ → FileMap �
     → OnlyReads clock since holds faults a c
 looks_on clock since holds faults a b c x y = record {
   state = y.state ∙ x.state;
-  time = rests_on (clock a) (clock b) (clock c) (since a) (since b) (since c) x.time y.time;
+  time = rests_then (clock a) (clock b) (clock c) (since a) (since b) (since c) x.time y.time;
   later = omega (arith, x.later, y.later);
 }
 

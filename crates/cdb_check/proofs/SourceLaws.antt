@@ -6,7 +6,7 @@ use Rattle.cdb_grid.specs.declared.tile.Tile.{Tile}
 use Rattle.cdb_model.specs.Maps.{Text, FileMap, size_of}
 use Rattle.cdb_model.specs.Names.{source_path, path}
 use Rattle.cdb_model.specs.TileFile.{tile_bytes}
-use Rattle.cdb_source.proofs.DecodingLaws.{gives}
+use Rattle.cdb_source.proofs.DecodingLaws.{one_source}
 use Rattle.cdb_source.proofs.TextLaws.{length-front_text, length-posts_text}
 use Rattle.cdb_check.specs.Expected.{SourceFile, a_tile, Spells, SpellAll, IsAsExpected}
 use Rattle.cdb_check.specs.inside.Outcome.{Judges, GivesFile, DecodesTo, Unread}
@@ -20,10 +20,6 @@ use Rattle.cdb_source.proofs.HeadLaws.{one_head, has_head}
 pub one_front : (a b : SourceHead) → source_front_text a ≡ source_front_text b → a ≡ b
 one_front a b e = one_head (source_front_text b) a b (has_head (source_front_text b) a (sym e))
     (has_head (source_front_text b) b refl)
-
--- a source file has one source, and its length is told by its head
-pub one_source : (a b : Source) → source_text a ≡ source_text b → a ≡ b
-one_source a b e = sym (gives (source_text a) (Ok b) e tt a refl)
 
 pub text_length : (s : Source) → length (source_text s) ≡ 52 + 2 * (s.head.rows * s.head.cols)
 text_length s = length-append (source_front_text s.head) (posts_text s.posts)

@@ -6,7 +6,7 @@ use Rattle.std.specs.Fmt.{decimal, signed_decimal}
 use Rattle.std.specs.List.{list_all, position_or_len}
 use Rattle.std.specs.Ordering.{int_eq}
 use Rattle.std.proofs.Math.Seq.{take-length, take-append_seam, drop-append-add}
-use Rattle.std.proofs.lemmas.Bool.{lt-ltb, le-leb}
+use Rattle.std.proofs.lemmas.Bool.{lt-ltb, le-leb, and_parts}
 use Rattle.std.proofs.lemmas.Bool.Decides.{nat_tests, Decides-int_eq}
 use Rattle.std.proofs.lemmas.Fmt.{decimal_nonempty, length-decimal-le, digits_decimal, digits_value-decimal}
 use Rattle.std.proofs.lemmas.Int.{ints}
@@ -19,7 +19,7 @@ use Rattle.cdb_model.specs.Words.{digits, signed, is_space}
 use Rattle.cdb_model.specs.Grammar.{fraction, is_slash, each, posts}
 use Rattle.cdb_model.specs.Writing.{fraction_text, HasDigits, IsWritableFraction}
 use Rattle.cdb_commands.proofs.Digits.{own}
-use Rattle.cdb_commands.proofs.JoinedWords.{both, is_clear}
+use Rattle.cdb_commands.proofs.JoinedWords.{is_clear}
 
 pub all_digits : (n : ℕ) → n < 2 ^ 64 → list_all is_ascii_digit (decimal n) ≡ true
 all_digits n wide = digits_decimal own n wide
@@ -38,7 +38,7 @@ pub plain_signed : (most : ℕ) (w : Text) (n : ℕ) → 0 < length w → list_a
 unfolding signed
 plain_signed most [] n some all e = absurd (omega arith)
 plain_signed most (c ∷ w) n some all e =
-    let t = both (is_ascii_digit c) (list_all is_ascii_digit w) all in
+    let t = and_parts (is_ascii_digit c) (list_all is_ascii_digit w) all in
     let no_minus : (c == 45) ≡ false = not_minus c t.0 in
     rw (no_minus, e) refl
   where
@@ -56,7 +56,7 @@ signed_back most (negsuc n) some short wide = rw (digits_back most (suc n) some 
 pub weaker : (p q : ℕ → Bool) (w : Text) → ((c : ℕ) → p c ≡ true → q c ≡ true) → list_all p w ≡ true
     → list_all q w ≡ true
 weaker p q [] f h = refl
-weaker p q (c ∷ w) f h = let t = both (p c) (list_all p w) h in rw (f c t.0) (weaker p q w f t.1)
+weaker p q (c ∷ w) f h = let t = and_parts (p c) (list_all p w) h in rw (f c t.0) (weaker p q w f t.1)
 
 pub digits_clear : (s : ℕ) (w : Text) → s < 48 → list_all is_ascii_digit w ≡ true → is_clear (λ c. c == s) w ≡ true
 digits_clear s w low h = weaker is_ascii_digit (λ c. not (c == s)) w (λ c d. apart c s low d) h
@@ -74,12 +74,13 @@ signed_clear s (negsuc n) low other wide = rw other (decimal_clear s (suc n) low
 
 place_of_slash : (w rest : Text) → is_clear is_slash w ≡ true → position_or_len is_slash (w ++ 47 ∷ rest) ≡ length w
 place_of_slash [] rest h = refl
-place_of_slash (c ∷ w) rest h = let t = both (not (is_slash c)) (is_clear is_slash w) h in
+place_of_slash (c ∷ w) rest h = let t = and_parts (not (is_slash c)) (is_clear is_slash w) h in
     rw (t.0, place_of_slash w rest t.1) (omega arith)
 
 no_slash : (w : Text) → is_clear is_slash w ≡ true → position_or_len is_slash w ≡ length w
 no_slash [] h = refl
-no_slash (c ∷ w) h = let t = both (not (is_slash c)) (is_clear is_slash w) h in rw (t.0, no_slash w t.1) (omega arith)
+no_slash (c ∷ w) h =
+    let t = and_parts (not (is_slash c)) (is_clear is_slash w) h in rw (t.0, no_slash w t.1) (omega arith)
 
 pub whole_back : (w : Text) → is_clear is_slash w ≡ true
     → fraction w ≡ option_map (λ n. record { n = n; d = pos 1 }) (signed 18 w)

@@ -1,5 +1,6 @@
 -- A line has one reading.
 use Rattle.std.proofs.Common.{◌≡◌, ℕ, Option, Some, None, Ok, Err, refl, ap, sym, subst, ◌∙◌}
+use Rattle.std.proofs.lemmas.Option.{same_Some}
 use Rattle.cdb_model.specs.declared.line.Line.{Line}
 use Rattle.cdb_model.specs.declared.line.Line.TheVariants as line
 use Rattle.cdb_model.specs.declared.line_error.LineError.TheVariants.{Syntax, Name}
@@ -9,10 +10,9 @@ use Rattle.cdb_model.specs.Text.{Text}
 use Rattle.cdb_names.proofs.NameResults.{one_wrong_in_name, none_in_name}
 use Rattle.cdb_commands.specs.Settled.{OneReading}
 use Rattle.cdb_commands.proofs.LineLemmas.{no_tile}
-use Rattle.cdb_commands.proofs.ReadForms.{some_is}
 
 same_sentence : (o : Option Sentence) (a b : Sentence) → o ≡ Some a → o ≡ Some b → a ≡ b
-same_sentence o a b p q = some_is a b (sym p ∙ q)
+same_sentence o a b p q = same_Some a b (sym p ∙ q)
 
 some_none : (o : Option Sentence) (a : Sentence) → o ≡ Some a → o ≡ None → ⊥
 some_none o a p q = let both : Some a ≡ None = sym p ∙ q in cc both

@@ -1,26 +1,21 @@
 -- What a parse of the four options makes of words, by the grammar of the words.
-use Rattle.std.proofs.Common.{◌≡◌, ◌∙◌, ◌++◌, ◌&&◌, ◌||◌, Bool, cond, codes, true, false, not, refl, sym, ap, ap₂, subst, List, [], ◌∷◌, map, Option, Some, None, is_some, ◌⊎◌, inl, inr}
-use Rattle.std.specs.Prelude.{slice_get, find, fold, option_and_then, option_map, nat_lt}
-use Rattle.std.specs.List.{list_all, list_any}
-use Rattle.std.specs.Option.{option_map_or}
+use Rattle.std.proofs.Common.{◌≡◌, ◌∙◌, ◌++◌, ◌&&◌, Bool, cond, codes, true, false, not, refl, sym, ap, ap₂, subst, List, [], ◌∷◌, map, Option, Some, None, is_some, inl, inr}
+use Rattle.std.specs.Prelude.{slice_get, find, fold, option_and_then, option_map}
+use Rattle.std.specs.List.{list_all}
 use Rattle.std.specs.Str.{bytes_eq}
-use Rattle.std.proofs.lemmas.Slice.Eq.{bytes_eq-Decides}
-use Rattle.std.proofs.lemmas.List.{append-nil, map-append}
-use Rattle.clap.specs.Lexer.{long_of, short_of}
+use Rattle.std.proofs.lemmas.Bool.{and_parts}
 use Rattle.cdb_model.specs.Text.{Text}
-use Rattle.clap.specs.Walk.{Held, Step, used_by_id, first_of, next as waits_next, trailing as ends_options, value as a_value, long_met, long_or_other, short_or_plain, option_word, more_values, after_step, nothing_held, Row, Rule, Waiting, idle, option, Walk, after_flag, arg_by_id, arg_by_long, at_row, finished, has_row, has_long, option_met, reading_by, settled, used, walk, walk_from, walked, with_default, with_values, word_met}
-use Rattle.clap.specs.Simple.{App, Shape, entered, matches_of, built, new_rule, new_shape}
+use Rattle.clap.specs.Walk.{Held, first_of, next as waits_next, trailing as ends_options, value as a_value, nothing_held, Row, Walk, finished, settled, walk, walk_from, walked, with_default}
+use Rattle.clap.specs.Simple.{entered, matches_of}
 use Rattle.clap.specs.Kinds.{Kinds, or_else}
-use Rattle.clap.specs.Faults.{entered_fault, bundle_fault, flag_word_fault, long_fault, other_fault, step_fault, level_fault, built_fault, check_fault, default_fault, defaults_fault, fault_of, given_default_fault, settle_fault, turn_fault, use_fault, walk_fault}
-use Rattle.clap.specs.declared.builder.action.ArgAction.TheVariants.{Set}
+use Rattle.clap.specs.Faults.{entered_fault, level_fault, built_fault, check_fault, defaults_fault, fault_of, settle_fault, turn_fault, walk_fault}
 use Rattle.clap.specs.declared.builder.value_parser.ValueParser.TheVariants as vp
 use Rattle.clap.specs.declared.error.kind.ErrorKind.{ErrorKind}
-use Rattle.clap.specs.declared.error.kind.ErrorKind.TheVariants.{ArgumentConflict, InvalidValue, UnknownArgument}
-use Rattle.clap.specs.declared.parser.matches.ValueSource.TheVariants.{CommandLine}
+use Rattle.clap.specs.declared.error.kind.ErrorKind.TheVariants.{ArgumentConflict, InvalidValue}
 use Rattle.cdb_commands.specs.OptionCommand.{options_app}
 use Rattle.cdb_commands.specs.Given.{IsGiven, SpellsOptions}
 use Rattle.cdb_commands.specs.declared.given.Given.{Given}
-use Rattle.cdb_commands.specs.OptionWords.{is_word, is_short, name_and_value, options_spelled, Use, given_text, after_name, after_value, after_word, and_use, is_given, is_name, option_names, uses_of}
+use Rattle.cdb_commands.specs.OptionWords.{is_word, is_short, options_spelled, Use, given_text, is_given, option_names, uses_of}
 use Rattle.cdb_commands.proofs.OptionLexer.{no_short}
 use Rattle.cdb_commands.proofs.OptionRules.{rules, shape, app, built_is, row, all_finished, no_defaults_fault}
 use Rattle.cdb_commands.proofs.OptionTurns.{AllWords, IsFault, fault_first, held, Standing, walk_of, Names, uses_from, Turns, use_kinds, no_second, one_more, settle_kinds, settled_is, turns, clear, behind, before}
@@ -192,14 +187,10 @@ both_not true b h = absurd cc
 both_not false true h = absurd cc
 both_not false false h = (refl, refl)
 
-both_true : (a b : Bool) → (a && b) ≡ true → (a ≡ true) × (b ≡ true)
-both_true true b h = (refl, h)
-both_true false b h = cc
-
 all_words_of : (words : List Text) → list_all is_word words ≡ true → AllWords words
 all_words_of [] h = tt
 all_words_of (word ∷ rest) h =
-    let p = both_true (is_word word) (list_all is_word rest) h in
+    let p = and_parts (is_word word) (list_all is_word rest) h in
     let q = both_not (bytes_eq word (45 ∷ 45 ∷ [])) (is_short word) p.0 in
     (record { goes_on = q.0; no_short = no_short word q.1 }, all_words_of rest p.1)
 

@@ -3,13 +3,12 @@ use Rattle.std.proofs.Common.{◌≡◌, ℕ, zero, suc, ◌+◌, ◌<◌, ◌�
 use Rattle.std.specs.Prelude.{nat_lt, IsAscii, if◌then◌else◌}
 use Rattle.std.specs.List.{position_or_len, onto_first, list_all, slice_split}
 use Rattle.std.specs.Str.{bytes_eq}
-use Rattle.std.proofs.lemmas.Bool.{ltb-true, ltb-false}
+use Rattle.std.proofs.lemmas.Bool.{ltb-true, ltb-false, and_parts}
 use Rattle.std.proofs.lemmas.Bool.Decides.{nat_tests}
 use Rattle.std.proofs.lemmas.List.{take_all}
 use Rattle.std.proofs.lemmas.Str.{IsUtf8-from_ascii}
 use Rattle.cdb_model.specs.Text.{Text}
 use Rattle.cdb_model.specs.Grammar.{is_slash, is_part, is_path_byte, after_slash}
-use Rattle.cdb_commands.proofs.JoinedWords.{both}
 use Rattle.cdb_commands.proofs.Parts.{first_part, only_part}
 
 -- each part of what is left is one of a path
@@ -45,10 +44,10 @@ is_byte_of_path c = is_slash c || is_path_byte c
 
 onto : (c : ℕ) (ps : List Text) → list_all (λ p. list_all is_path_byte p) (onto_first c ps) ≡ true
     → (is_path_byte c ≡ true) × (list_all (λ p. list_all is_path_byte p) ps ≡ true)
-onto c [] h = let t = both (is_path_byte c && true) true h in ((both (is_path_byte c) true t.0).0, refl)
+onto c [] h = let t = and_parts (is_path_byte c && true) true h in ((and_parts (is_path_byte c) true t.0).0, refl)
 onto c (p ∷ ps) h =
-    let t = both (is_path_byte c && list_all is_path_byte p) (list_all (λ p. list_all is_path_byte p) ps) h in
-    let u = both (is_path_byte c) (list_all is_path_byte p) t.0 in
+    let t = and_parts (is_path_byte c && list_all is_path_byte p) (list_all (λ p. list_all is_path_byte p) ps) h in
+    let u = and_parts (is_path_byte c) (list_all is_path_byte p) t.0 in
     let v : (list_all is_path_byte p && list_all (λ p. list_all is_path_byte p) ps) ≡ true = rw u.1 t.1 in
     (u.0, v)
 
@@ -70,12 +69,12 @@ part_bytes p h =
     let some = nat_lt 0 (length p) in
     let bytes = list_all is_path_byte p in
     let one = not (bytes_eq p (codes ".")) in
-    let t = both (some && bytes && one) (not (bytes_eq p (codes ".."))) h in
-    (both some bytes (both (some && bytes) one t.0).0).1
+    let t = and_parts (some && bytes && one) (not (bytes_eq p (codes ".."))) h in
+    (and_parts some bytes (and_parts (some && bytes) one t.0).0).1
 
 all_bytes : (ps : List Text) → list_all is_part ps ≡ true → list_all (λ p. list_all is_path_byte p) ps ≡ true
 all_bytes [] h = refl
-all_bytes (p ∷ ps) h = let t = both (is_part p) (list_all is_part ps) h in rw (part_bytes p t.0) (all_bytes ps t.1)
+all_bytes (p ∷ ps) h = let t = and_parts (is_part p) (list_all is_part ps) h in rw (part_bytes p t.0) (all_bytes ps t.1)
 
 pub path_bytes : (w : Text) → list_all is_part (slice_split is_slash w) ≡ true → list_all is_byte_of_path w ≡ true
 path_bytes w h = plain w (all_bytes (slice_split is_slash w) h)
@@ -85,8 +84,8 @@ low c h = grind (arith, nat_tests)
 
 ascii : (w : Text) → list_all is_byte_of_path w ≡ true → IsAscii w
 ascii [] h i = omega arith
-ascii (c ∷ w) h zero = low c (both (is_byte_of_path c) (list_all is_byte_of_path w) h).0
-ascii (c ∷ w) h (suc i) = ascii w (both (is_byte_of_path c) (list_all is_byte_of_path w) h).1 i
+ascii (c ∷ w) h zero = low c (and_parts (is_byte_of_path c) (list_all is_byte_of_path w) h).0
+ascii (c ∷ w) h (suc i) = ascii w (and_parts (is_byte_of_path c) (list_all is_byte_of_path w) h).1 i
 
 pub path_is_text : (w : Text) → list_all is_part (slice_split is_slash w) ≡ true → IsUtf8 w
 path_is_text w h = IsUtf8-from_ascii w (ascii w (path_bytes w h))

@@ -5,30 +5,18 @@ use Rattle.std.specs.Char.{is_ascii_digit, is_ascii_graphic}
 use Rattle.std.specs.List.{list_all, slice_split, position_or_len}
 use Rattle.std.specs.Str.{bytes_eq}
 use Rattle.std.specs.Str.Parse.{digits_value}
-use Rattle.std.proofs.lemmas.Bool.{ltb-true, leb-true}
+use Rattle.std.proofs.lemmas.Bool.{ltb-true, leb-true, and_parts}
 use Rattle.std.proofs.lemmas.Int.{ints}
 use Rattle.std.proofs.lemmas.List.Elements.{All-nil, All-cons}
 use Rattle.std.proofs.lemmas.Str.Parse.{digits_value_short}
+use Rattle.std.proofs.lemmas.Option.{same_Some}
 use Rattle.cdb_grid.specs.declared.fraction.Fraction.{Fraction}
 use Rattle.cdb_model.specs.Text.{Text}
 use Rattle.cdb_model.specs.Words.{words, first_word, first_field, only_word, digits, signed}
 use Rattle.cdb_model.specs.Grammar.{Head, InlineSource, FileSource, Sentence, inline, source, publish, step, step_all, open_session, close, versions, quit, blank, kind_word, fraction, fraction_of, after_slash, is_slash, is_part, path_word, file_name, each, posts, head, inline_source, file_source, tile_request, step_word, one_word, sentence, line_of}
 use Rattle.cdb_model.specs.Writing.{HasDigits, IsWritableFraction, IsWritableHead, IsInlineSource, IsFileSource, IsSentence, ReadingHasForm}
 use Rattle.cdb_commands.proofs.Digits.{own}
-use Rattle.cdb_commands.proofs.JoinedWords.{both}
-
-pub some_is : {X : Type 0} (x y : X) → Some x ≡ Some y → x ≡ y
-some_is x y e = cc
-
-pub then_some : {X Y : Type 0} (o : Option X) (f : X → Option Y) (y : Y) → option_and_then f o ≡ Some y → (x : X)
-    × (o ≡ Some x) × (f x ≡ Some y)
-then_some None f y e = absurd cc
-then_some (Some x) f y e = (x, refl, e)
-
-pub map_some : {X Y : Type 0} (o : Option X) (f : X → Y) (y : Y) → option_map f o ≡ Some y → (x : X)
-    × (o ≡ Some x) × (f x ≡ y)
-map_some None f y e = absurd cc
-map_some (Some x) f y e = (x, refl, some_is (f x) y e)
+use Rattle.cdb_names.proofs.Tools.{then_some, map_some}
 
 pub then_if : {X : Type 0} (b : Bool) (o : Option X) (x : X) → cond b o None ≡ Some x → (b ≡ true) × (o ≡ Some x)
 then_if true o x e = (refl, e)
@@ -43,8 +31,8 @@ unfolding digits
 digits_form most w n e =
     let short = nat_lt 0 (length w) && nat_le (length w) most in
     let t = if_some (short && list_all is_ascii_digit w) (digits_value 10 w) n e in
-    let u = both short (list_all is_ascii_digit w) t.0 in
-    let v = both (nat_lt 0 (length w)) (nat_le (length w) most) u.0 in
+    let u = and_parts short (list_all is_ascii_digit w) t.0 in
+    let v = and_parts (nat_lt 0 (length w)) (nat_le (length w) most) u.0 in
     subst (λ (n : ℕ). n < 10 ^ most) t.1 (digits_value_short own w most u.1 (leb-true (length w) most v.1))
 
 pub abs_neg : (n : ℕ) → nat_abs (neg_ℤ (pos n)) ≡ n
@@ -73,7 +61,7 @@ fraction_of_form top None f e =
 fraction_of_form top (Some bottom) f e =
     let t = then_some (signed 18 top) _ f e in
     let u = then_some (digits 18 bottom) _ f t.2 in
-    subst IsWritableFraction (some_is _ f u.2)
+    subst IsWritableFraction (same_Some _ f u.2)
     (record {
       top = signed_form 18 top t.0 t.1;
       bottom = digits_form 18 bottom u.0 u.1;
@@ -108,7 +96,7 @@ head_form ws p e =
     let lon = then_some (first_field fraction lat.0.1) _ p lat.2 in
     let dlat = then_some (first_field fraction lon.0.1) _ p lon.2 in
     let dlon = then_some (first_field fraction dlat.0.1) _ p dlat.2 in
-    subst (λ (p : Head × List Text). IsWritableHead p.0) (some_is _ p dlon.2) (record {
+    subst (λ (p : Head × List Text). IsWritableHead p.0) (same_Some _ p dlon.2) (record {
       level = field_form (signed 9) (HasDigits 9) (signed_form 9) kind.0.1 level.0 level.1;
       lat = field_form fraction IsWritableFraction fraction_form level.0.1 lat.0 lat.1;
       lon = field_form fraction IsWritableFraction fraction_form lat.0.1 lon.0 lon.1;
@@ -121,7 +109,7 @@ count_form ws p e = field_form (digits 9) (λ n. n < 10 ^ 9) (digits_form 9) ws 
 
 each_form : (ws : List Text) (zs : List ℤ) → each (signed 6) ws ≡ Some zs → (length zs ≡ length ws)
     × All (HasDigits 6) zs
-each_form [] zs e = let none : [] ≡ zs = some_is [] zs e in
+each_form [] zs e = let none : [] ≡ zs = same_Some [] zs e in
     subst (λ (zs : List ℤ). (length zs ≡ 0) × All (HasDigits 6) zs) none (refl, All-nil (HasDigits 6))
 each_form (w ∷ ws) zs e =
     let z = then_some (signed 6 w) _ zs e in
@@ -135,7 +123,7 @@ posts_form : (ws : List Text) (zs : List ℤ) → posts ws ≡ Some zs → (0 < 
 unfolding posts
 posts_form ws zs e =
     let t = then_if (nat_lt 0 (length ws) && nat_le (length ws) 64) (each (signed 6) ws) zs e in
-    let u = both (nat_lt 0 (length ws)) (nat_le (length ws) 64) t.0 in
+    let u = and_parts (nat_lt 0 (length ws)) (nat_le (length ws) 64) t.0 in
     let some : 0 < length ws = ltb-true 0 (length ws) u.0 in
     let few : length ws ≤ 64 = leb-true (length ws) 64 u.1 in
     let v = each_form ws zs t.1 in
@@ -195,7 +183,7 @@ step_form : (w : Text) (s : Sentence) → step_word w ≡ Some s → IsSentence 
 step_form w s e = by (bytes_eq w (codes "all")) e
   where
     by : (b : Bool) → cond b (Some step_all) (option_map step (digits 9 w)) ≡ Some s → IsSentence s
-    by true e = subst IsSentence (some_is step_all s e) tt
+    by true e = subst IsSentence (same_Some step_all s e) tt
     by false e = let t = map_some (digits 9 w) step s e in subst IsSentence t.2 (digits_form 9 w t.0 t.1)
 
 word_form : (w : Text) (s : Sentence) → one_word w ≡ Some s → IsSentence s
@@ -206,10 +194,10 @@ word_form w s e = by (bytes_eq w (codes "publish")) (bytes_eq w (codes "open")) 
     by : (a b c d : Bool)
         → cond a (Some publish) (cond b (Some open_session) (cond c (Some versions) (cond d (Some quit) None)))
         ≡ Some s → IsSentence s
-    by true b c d e = subst IsSentence (some_is publish s e) tt
-    by false true c d e = subst IsSentence (some_is open_session s e) tt
-    by false false true d e = subst IsSentence (some_is versions s e) tt
-    by false false false true e = subst IsSentence (some_is quit s e) tt
+    by true b c d e = subst IsSentence (same_Some publish s e) tt
+    by false true c d e = subst IsSentence (same_Some open_session s e) tt
+    by false false true d e = subst IsSentence (same_Some versions s e) tt
+    by false false false true e = subst IsSentence (same_Some quit s e) tt
     by false false false false e = absurd cc
 
 sentence_form : (first : Text) (ws : List Text) (s : Sentence) → sentence first ws ≡ Some s → IsSentence s
@@ -243,6 +231,6 @@ line_form line s e = by (bytes_eq line []) e
   where
     by : (b : Bool) → cond b (Some blank) (option_and_then (λ p. sentence p.0 p.1) (first_word (words line)))
         ≡ Some s → IsSentence s
-    by true e = subst IsSentence (some_is blank s e) tt
+    by true e = subst IsSentence (same_Some blank s e) tt
     by false e = let t = then_some (first_word (words line)) (λ p. sentence p.0 p.1) s e in
         sentence_form t.0.0 t.0.1 s t.2

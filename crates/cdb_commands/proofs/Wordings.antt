@@ -1,28 +1,29 @@
 -- What is read of a line is spelled by it.
-use Rattle.std.proofs.Common.{◌≡◌, ℕ, zero, suc, ◌+◌, ◌^◌, ◌<◌, ◌≤◌, Bool, true, false, cond, not, ◌&&◌, List, [], ◌∷◌, ◌++◌, length, take, drop, map, codes, Option, Some, None, ◌⊎◌, inl, inr, refl, ap, sym, subst, ◌∙◌, arith}
+use Rattle.std.proofs.Common.{◌≡◌, ℕ, zero, suc, ◌+◌, ◌^◌, ◌<◌, ◌≤◌, Bool, true, false, cond, not, ◌&&◌, List, [], ◌∷◌, ◌++◌, length, take, drop, map, codes, Option, Some, None, inl, inr, refl, ap, sym, subst, ◌∙◌, arith}
 use Rattle.std.specs.Prelude.{ℤ, pos, neg_ℤ, nat_lt, nat_le, ◌==◌, is_some, option_map, option_and_then}
 use Rattle.std.specs.Char.{is_ascii_digit, is_ascii_graphic}
 use Rattle.std.specs.Fmt.{decimal}
-use Rattle.std.specs.List.{list_all, slice_split, position_or_len, join_with_byte}
+use Rattle.std.specs.List.{list_all, slice_split, position_or_len}
 use Rattle.std.specs.Str.{bytes_eq}
 use Rattle.std.specs.Str.Parse.{digits_value}
-use Rattle.std.proofs.lemmas.Bool.{ltb-true, leb-true, eqb-true}
+use Rattle.std.proofs.lemmas.Bool.{ltb-true, leb-true, eqb-true, and_parts}
 use Rattle.std.proofs.lemmas.Bool.Decides.{nat_tests}
 use Rattle.std.proofs.lemmas.Fmt.{decimal-digits_value}
 use Rattle.std.proofs.lemmas.List.Splits.{join_with_byte-slice_split}
 use Rattle.std.proofs.lemmas.Slice.Eq.{bytes_eq-Decides}
+use Rattle.std.proofs.lemmas.Option.{same_Some}
 use Rattle.cdb_grid.specs.declared.fraction.Fraction.{Fraction}
 use Rattle.cdb_source.specs.declared.kind.Kind.{Kind}
 use Rattle.cdb_source.specs.declared.kind.Kind.TheVariants.{Elevation, Material}
 use Rattle.cdb_model.specs.Text.{Text}
-use Rattle.cdb_model.specs.Words.{words, first_word, first_field, only_word, is_space}
+use Rattle.cdb_model.specs.Words.{words, first_word, first_field, only_word}
 use Rattle.cdb_model.specs.Words as reading
-use Rattle.cdb_model.specs.Grammar.{Head, InlineSource, FileSource, Sentence, inline, source, publish, step, step_all, open_session, close, versions, quit, blank, kind_word, fraction, fraction_of, after_slash, is_slash, path_word, file_name, each, posts, head, inline_source, file_source, tile_request, step_word, one_word, sentence, line_of, is_part}
+use Rattle.cdb_model.specs.Grammar.{Head, InlineSource, FileSource, Sentence, inline, source, publish, step, step_all, open_session, close, versions, quit, blank, kind_word, fraction, fraction_of, is_slash, path_word, file_name, each, posts, head, inline_source, file_source, tile_request, step_word, one_word, sentence, line_of, is_part}
 use Rattle.cdb_model.specs.Writing.{kind_text}
-use Rattle.cdb_commands.specs.Wording.{with_zeros, IsNumber, HasMinus, HasNoMinus, IsSigned, IsWholeDegrees, IsRatio, IsDegrees, Said, itself, number, signed, degrees, SaysNumbers, Say, head_said, all_said, IsWording, ReadingIsWorded}
+use Rattle.cdb_commands.specs.Wording.{with_zeros, IsNumber, IsSigned, IsDegrees, itself, number, signed, Say, head_said, all_said, IsWording, ReadingIsWorded}
 use Rattle.cdb_commands.proofs.Digits.{own, short_value}
-use Rattle.cdb_commands.proofs.JoinedWords.{both}
-use Rattle.cdb_commands.proofs.ReadForms.{some_is, then_some, map_some, then_if, if_some}
+use Rattle.cdb_commands.proofs.ReadForms.{then_if, if_some}
+use Rattle.cdb_names.proofs.Tools.{then_some, map_some}
 
 -- ---- numbers
 
@@ -41,7 +42,7 @@ without_zeros (c ∷ d ∷ w) some few all = by (without_zeros (d ∷ w)) (c == 
         × (c ∷ d ∷ w ≡ with_zeros zeros (decimal (digits_value 10 (c ∷ d ∷ w))))
     by later true e =
         let is : c ≡ 48 = eqb-true c 48 e in
-        let t = both (is_ascii_digit c) (list_all is_ascii_digit (d ∷ w)) all in
+        let t = and_parts (is_ascii_digit c) (list_all is_ascii_digit (d ∷ w)) all in
         let r = later (omega arith) (omega (arith, few)) t.1 in
         let P : ℕ → Type 0 = λ b. (zeros : ℕ)
         × (b ∷ d ∷ w ≡ with_zeros zeros (decimal (digits_value 10 (b ∷ d ∷ w)))) in
@@ -58,8 +59,8 @@ unfolding reading.digits
 number_worded most w n le e =
     let short = nat_lt 0 (length w) && nat_le (length w) most in
     let t = if_some (short && list_all is_ascii_digit w) (digits_value 10 w) n e in
-    let u = both short (list_all is_ascii_digit w) t.0 in
-    let v = both (nat_lt 0 (length w)) (nat_le (length w) most) u.0 in
+    let u = and_parts short (list_all is_ascii_digit w) t.0 in
+    let v = and_parts (nat_lt 0 (length w)) (nat_le (length w) most) u.0 in
     let some : 0 < length w = ltb-true 0 (length w) v.0 in
     let few : length w ≤ most = leb-true (length w) most v.1 in
     let z = without_zeros w some (omega (arith, few)) u.1 in
@@ -121,7 +122,7 @@ degrees_worded w f e = by (nat_lt (position_or_len is_slash w) (length w)) refl 
         let lt : position_or_len is_slash w < length w = ltb-true (position_or_len is_slash w) (length w) h in
         let t = then_some (reading.signed 18 (take (position_or_len is_slash w) w)) _ f e in
         let u = then_some (reading.digits 18 (drop (position_or_len is_slash w + 1) w)) _ f t.2 in
-        let is = some_is _ f u.2 in
+        let is = same_Some _ f u.2 in
         inr (record {
           before = take (position_or_len is_slash w) w;
           after = drop (position_or_len is_slash w + 1) w;
@@ -151,15 +152,15 @@ kind_worded w kind e = by (bytes_eq w (codes "elev")) (bytes_eq w (codes "mat"))
   where
     by : (a b : Bool) → bytes_eq w (codes "elev") ≡ a → bytes_eq w (codes "mat") ≡ b
         → cond a (Some Elevation) (cond b (Some Material) None) ≡ Some kind → w ≡ kind_text kind
-    by true b p q e = (bytes_eq-Decides w (codes "elev")).0 p ∙ ap kind_text (some_is Elevation kind e)
-    by false true p q e = (bytes_eq-Decides w (codes "mat")).0 q ∙ ap kind_text (some_is Material kind e)
+    by true b p q e = (bytes_eq-Decides w (codes "elev")).0 p ∙ ap kind_text (same_Some Elevation kind e)
+    by false true p q e = (bytes_eq-Decides w (codes "mat")).0 q ∙ ap kind_text (same_Some Material kind e)
     by false false p q e = absurd cc
 
 -- ---- words
 
 first_of : (ws : List Text) (p : Text × List Text) → first_word ws ≡ Some p → ws ≡ p.0 ∷ p.1
 first_of [] p e = absurd cc
-first_of (w ∷ ws) p e = ap (λ (q : Text × List Text). q.0 ∷ q.1) (some_is (w, ws) p e)
+first_of (w ∷ ws) p e = ap (λ (q : Text × List Text). q.0 ∷ q.1) (same_Some (w, ws) p e)
 
 field_worded : {X : Type 0} (read : Text → Option X) (ws : List Text) (p : X × List Text) → first_field read ws ≡ Some p
     → (w : Text) × (ws ≡ w ∷ p.1) × (read w ≡ Some p.0)
@@ -209,7 +210,7 @@ head_worded ws p e =
     let d = field_worded fraction lat.0.1 lon.0 lon.1 in
     let f = field_worded fraction lon.0.1 dlat.0 dlat.1 in
     let g = field_worded fraction dlat.0.1 dlon.0 dlon.1 in
-    subst (λ (p : Head × List Text). HasHead ws p.0 p.1) (some_is _ p dlon.2) (record {
+    subst (λ (p : Head × List Text). HasHead ws p.0 p.1) (same_Some _ p dlon.2) (record {
       kind = a.0;
       level = b.0;
       lat = c.0;
@@ -234,7 +235,7 @@ head_worded ws p e =
     six p q r s t u = cc
 
 each_worded : (ws : List Text) (zs : List ℤ) → each (reading.signed 6) ws ≡ Some zs → Say ws (map (λ z. signed 6 z) zs)
-each_worded [] zs e = let none : [] ≡ zs = some_is [] zs e in
+each_worded [] zs e = let none : [] ≡ zs = same_Some [] zs e in
     subst (λ (zs : List ℤ). Say [] (map (λ z. signed 6 z) zs)) none tt
 each_worded (w ∷ ws) zs e =
     let z = then_some (reading.signed 6 w) _ zs e in
@@ -367,7 +368,7 @@ step_worded ws s e =
   where
     by : (w : Text) (b : Bool) → bytes_eq w (codes "all") ≡ b
         → cond b (Some step_all) (option_map step (reading.digits 9 w)) ≡ Some s → AreFor (codes "step" ∷ w ∷ []) s
-    by w true h e = subst (AreFor (codes "step" ∷ w ∷ [])) (some_is step_all s e)
+    by w true h e = subst (AreFor (codes "step" ∷ w ∷ [])) (same_Some step_all s e)
         (refl, ((bytes_eq-Decides w (codes "all")).0 h, tt))
     by w false h e = let t = map_some (reading.digits 9 w) step s e in
         subst (AreFor (codes "step" ∷ w ∷ [])) t.2 (refl, (number_worded 9 w t.0 (omega arith) t.1, tt))
@@ -390,13 +391,13 @@ one_worded w s e = by (bytes_eq w (codes "publish")) (bytes_eq w (codes "open"))
         → bytes_eq w (codes "versions") ≡ c → bytes_eq w (codes "quit") ≡ d
         → cond a (Some publish) (cond b (Some open_session) (cond c (Some versions) (cond d (Some quit) None))) ≡ Some s
         → AreFor (w ∷ []) s
-    by true b c d p q r t e = subst (AreFor (w ∷ [])) (some_is publish s e)
+    by true b c d p q r t e = subst (AreFor (w ∷ [])) (same_Some publish s e)
         ((bytes_eq-Decides w (codes "publish")).0 p, tt)
-    by false true c d p q r t e = subst (AreFor (w ∷ [])) (some_is open_session s e)
+    by false true c d p q r t e = subst (AreFor (w ∷ [])) (same_Some open_session s e)
         ((bytes_eq-Decides w (codes "open")).0 q, tt)
-    by false false true d p q r t e = subst (AreFor (w ∷ [])) (some_is versions s e)
+    by false false true d p q r t e = subst (AreFor (w ∷ [])) (same_Some versions s e)
         ((bytes_eq-Decides w (codes "versions")).0 r, tt)
-    by false false false true p q r t e = subst (AreFor (w ∷ [])) (some_is quit s e)
+    by false false false true p q r t e = subst (AreFor (w ∷ [])) (same_Some quit s e)
         ((bytes_eq-Decides w (codes "quit")).0 t, tt)
     by false false false false p q r t e = absurd cc
 
@@ -437,7 +438,7 @@ line_worded line s e = by (bytes_eq line []) refl e
     by : (b : Bool) → bytes_eq line [] ≡ b
         → cond b (Some blank) (option_and_then (λ p. sentence p.0 p.1) (first_word (words line))) ≡ Some s
         → IsWording line s
-    by true h e = subst (IsWording line) (some_is blank s e)
+    by true h e = subst (IsWording line) (same_Some blank s e)
         (record { words = []; joined = (bytes_eq-Decides line []).0 h; say = tt })
     by false h e =
         let t = then_some (first_word (words line)) (λ p. sentence p.0 p.1) s e in

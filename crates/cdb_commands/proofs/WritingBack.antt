@@ -6,13 +6,14 @@ use Rattle.std.specs.Fmt.{decimal, signed_decimal}
 use Rattle.std.specs.List.{list_all, slice_split, join_with_byte}
 use Rattle.std.specs.Str.{bytes_eq}
 use Rattle.std.proofs.lemmas.Bool.Decides.{nat_tests}
+use Rattle.std.proofs.lemmas.Bool.{and_parts}
 use Rattle.cdb_source.specs.declared.kind.Kind.{Kind}
 use Rattle.cdb_source.specs.declared.kind.Kind.TheVariants.{Elevation, Material}
 use Rattle.cdb_model.specs.Text.{Text}
 use Rattle.cdb_model.specs.Words.{digits, is_space}
 use Rattle.cdb_model.specs.Grammar.{Head, InlineSource, FileSource, Sentence, inline, source, publish, step, step_all, open_session, tile, close, versions, quit, blank, kind_word, path_word, file_name, head, inline_source, file_source, tile_request, step_word, one_word, sentence, line_of, is_slash, is_part}
 use Rattle.cdb_model.specs.Writing.{kind_text, head_words, IsWritableHead, IsInlineSource, IsFileSource, WritingReadsBack}
-use Rattle.cdb_commands.proofs.JoinedWords.{both, has_no_space, joined}
+use Rattle.cdb_commands.proofs.JoinedWords.{has_no_space, joined}
 use Rattle.cdb_commands.proofs.PathLemmas.{is_byte_of_path, path_bytes}
 use Rattle.cdb_commands.proofs.NumbersBack.{all_digits, weaker, digits_back, signed_back, fraction_back, posts_back, decimal_clear, signed_clear, fraction_clear, posts_clear}
 
@@ -91,7 +92,7 @@ some_if false x y e = absurd cc
 pub path_clear : (p : Text) → path_word p ≡ Some p → has_no_space p ≡ true
 unfolding path_word
 path_clear p is =
-    let t = both (nat_le (length p) 128) (list_all is_part (slice_split is_slash p))
+    let t = and_parts (nat_le (length p) 128) (list_all is_part (slice_split is_slash p))
     (some_if (nat_le (length p) 128 && list_all is_part (slice_split is_slash p)) p p is) in
     weaker is_byte_of_path (λ c. not (is_space c)) p no_space (path_bytes p t.1)
   where
@@ -102,7 +103,7 @@ pub name_clear : (name : Text) → file_name name ≡ Some name → has_no_space
 unfolding file_name
 name_clear name is =
     let short = nat_lt 0 (length name) && nat_le (length name) 128 in
-    let t = both short (list_all is_ascii_graphic name)
+    let t = and_parts short (list_all is_ascii_graphic name)
     (some_if (short && list_all is_ascii_graphic name) name name is) in
     weaker is_ascii_graphic (λ c. not (is_space c)) name no_space t.1
   where
@@ -113,7 +114,7 @@ name_clear name is =
 pub not_all : (w : Text) → list_all is_ascii_digit w ≡ true → bytes_eq w (codes "all") ≡ false
 not_all [] h = refl
 not_all (c ∷ w) h = let other : nat_eq c 97 ≡ false =
-    apart c (both (is_ascii_digit c) (list_all is_ascii_digit w) h).0 in rw other refl
+    apart c (and_parts (is_ascii_digit c) (list_all is_ascii_digit w) h).0 in rw other refl
   where
     apart : (c : ℕ) → is_ascii_digit c ≡ true → nat_eq c 97 ≡ false
     apart c h = grind (arith, nat_tests)

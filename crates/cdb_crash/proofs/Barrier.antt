@@ -6,9 +6,10 @@ use Rattle.cdb_model.specs.Maps.{Content, FileMap, IsThere, put}
 use Rattle.cdb_model.specs.Names.{head_path}
 use Rattle.cdb_model.proofs.MapLaws.{put-same}
 use Rattle.cdb_files.specs.Disk.{State, Possible, IsImage, Allows, after_sync_dir}
+use Rattle.cdb_files.proofs.StateLaws.{sync_dir-present}
 use Rattle.cdb_crash.specs.Crash.{IsClear, IsWhole, IsEither, IsFaulted, IsAlone}
 use Rattle.cdb_crash.proofs.Facts.{IsLayout}
-use Rattle.cdb_crash.proofs.Possible.{sync_dir-allowed, sync_dir-image, sync_dir-kept, sync_dir-present, kept-settled, image_put}
+use Rattle.cdb_crash.proofs.Possible.{sync_dir-allowed, sync_dir-image, sync_dir-kept, kept-settled, image_put}
 use Rattle.cdb_crash.proofs.HeadSteps.{head_in_root}
 
 module _ {X : Type 0} (Stands : FileMap → List X → Type 0) (Complete : List X → X → FileMap → Type 0)

@@ -5,15 +5,11 @@ use Rattle.cdb_model.proofs.MapLaws.{put-same, put-other, same_text}
 use Rattle.cdb_files.specs.Disk.{State, Possible, IsImage, Allows, after_create, after_append, after_sync_file, after_remove, after_make_dir, Fails, FailsAppend}
 use Rattle.cdb_files.specs.Whole.{IsImageBut, ChangesOnly, after_write, after_fill}
 use Rattle.cdb_files.proofs.StateLaws.{same-only, create-only, append-only, sync_file-only, remove-only, fails-only, fails_append-only, between-but}
+use Rattle.cdb_files.proofs.StateLaws.{image-but}
 use Rattle.cdb_crash.specs.Leftovers.{IsOfVersion}
 use Rattle.cdb_crash.specs.Crash.{IsClean, IsMid}
 use Rattle.cdb_crash.specs.Laws.{CallKeeps, FolderCalls, PathCalls}
 use Rattle.cdb_crash.proofs.Possible.{sync_dir-image, sync_dir-between, image_put}
-
-image_of_only : (path : Text) (old new : State) → ChangesOnly path old new → (m : FileMap) → IsImage new m
-    → IsImageBut path old m
-image_of_only path old new only m image q ne = let P : Possible → Type 0 = λ p. Allows p (m q) in
-    subst P (only.may q ne) (image q)
 
 -- A call that changes one path alone.
 call_keeps : (Kind : FileMap → Type 0) (path : Text) (s after : State) (Failed : State → Type 0)
@@ -21,8 +17,8 @@ call_keeps : (Kind : FileMap → Type 0) (path : Text) (s after : State) (Failed
     → ChangesOnly path s after → ((new : State) → Failed new → ChangesOnly path s new) → CallKeeps Kind s after Failed
 call_keeps Kind path s after Failed but only failed = record {
   inside = λ m between. but m (between-but path s s after m (same-only path s) only between);
-  ok = λ m image. but m (image_of_only path s after only m image);
-  err = λ new f m image. but m (image_of_only path s new (failed new f) m image);
+  ok = λ m image. but m (image-but path s after only m image);
+  err = λ new f m image. but m (image-but path s new (failed new f) m image);
 }
 
 pub path_calls : (Kind : FileMap → Type 0) (path : Text) (s : State) → ((m : FileMap) → IsImageBut path s m → Kind m)

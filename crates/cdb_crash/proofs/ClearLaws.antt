@@ -1,16 +1,17 @@
 -- A clear disk stays clear.
-use Rattle.std.proofs.Common.{◌≡◌, ◌≢◌, ℕ, ◌≤◌, ◌⊎◌, inl, inr, List, [], ◌∷◌, take, None, Some, refl, sym, ap, ◌∙◌, subst}
+use Rattle.std.proofs.Common.{◌≡◌, ◌≢◌, ℕ, ◌≤◌, ◌⊎◌, inl, inr, List, [], ◌∷◌, take, None, Some, sym, ap, ◌∙◌, subst}
 use Rattle.cdb_model.specs.Maps.{Text, Content, FileMap, IsThere, put}
 use Rattle.cdb_model.specs.Names.{head_path, new_head_path}
 use Rattle.cdb_model.proofs.MapLaws.{put-other, same_text}
 use Rattle.cdb_files.specs.Disk.{State, Possible, Allows, added, after_create, after_append, after_sync_file, after_rename, after_remove, after_make_dir, Fails, FailsAppend}
 use Rattle.cdb_files.specs.Whole.{ChangesOnly}
 use Rattle.cdb_files.proofs.StateLaws.{create-only, append-only, sync_file-only, remove-only, make_dir-only, fails-only, fails_append-only, there-create, there-append}
+use Rattle.cdb_files.proofs.StateLaws.{sync_file-present, sync_dir-present}
 use Rattle.cdb_crash.specs.Leftovers.{IsOfVersion}
 use Rattle.cdb_crash.specs.Crash.{IsClear}
 use Rattle.cdb_crash.specs.Laws.{ClearStays}
 use Rattle.cdb_crash.proofs.Paths.{not_head, not_new_head}
-use Rattle.cdb_crash.proofs.Possible.{sync_dir-allowed, sync_dir-present}
+use Rattle.cdb_crash.proofs.Possible.{sync_dir-allowed}
 
 -- Paths of versions that a call leaves as they were.
 kept_clear : (s new : State) → IsClear s
@@ -50,10 +51,6 @@ appended_there path piece s new there (n, le, fails) = of fails.present
     of (inl e) = let M : FileMap → Type 0 = λ m. IsThere (m path) in subst M (sym e) there
     of (inr e) = let M : FileMap → Type 0 = λ m. IsThere (m path) in
         subst M (sym e) (there-append path (take n piece) s there)
-
-sync_file-present : (path : Text) (s : State) → (after_sync_file path s).present ≡ s.present
-unfolding after_sync_file
-sync_file-present path s = refl
 
 rename-present : (s : State) (q : Text) → q ≢ new_head_path → q ≢ head_path
     → (after_rename new_head_path head_path s).present q ≡ s.present q

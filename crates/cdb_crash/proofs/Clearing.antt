@@ -4,11 +4,12 @@ use Rattle.cdb_model.specs.Maps.{Text, Content, FileMap, IsThere, folder_above, 
 use Rattle.cdb_model.specs.Names.{version_folder, new_head_path}
 use Rattle.cdb_model.proofs.MapLaws.{put-same, put-other, same_text, bytes_eq-same}
 use Rattle.cdb_files.specs.Disk.{State, Possible, IsImage, Allows, added, after_remove, after_sync_dir}
+use Rattle.cdb_files.proofs.StateLaws.{sync_dir-present}
 use Rattle.cdb_crash.specs.Leftovers.{IsOfVersion}
 use Rattle.cdb_crash.specs.Crash.{IsWhole, IsClean, IsClearing, HasRoom}
 use Rattle.cdb_crash.proofs.Facts.{IsLayout}
 use Rattle.cdb_crash.proofs.Paths.{not_new_head, at_most-wider, one_less}
-use Rattle.cdb_crash.proofs.Possible.{sync_dir-allowed, sync_dir-kept, sync_dir-present, kept-none, added-new}
+use Rattle.cdb_crash.proofs.Possible.{sync_dir-allowed, sync_dir-kept, kept-none, added-new}
 use Rattle.cdb_crash.proofs.Law.{stands_but, clear_room, whole_room}
 
 -- ---- a removed file

@@ -1,5 +1,6 @@
 -- The store that was never written.
 use Rattle.std.proofs.Common.{◌≡◌, ◌≢◌, ℕ, ◌+◌, ◌⊎◌, inl, inr, List, [], ◌∷◌, ◌++◌, length, length-append, None, Some, refl, sym, ap, ◌∙◌, subst, arith}
+use Rattle.std.proofs.lemmas.Option.{none-some}
 use Rattle.cdb_source.specs.declared.source.Source.{Source}
 use Rattle.cdb_model.specs.Maps.{Text, Content, FileMap, IsThere, put}
 use Rattle.cdb_model.specs.Names.{head_path, new_head_path}
@@ -10,7 +11,6 @@ use Rattle.cdb_crash.specs.Leftovers.{IsOfVersion}
 use Rattle.cdb_crash.specs.Laws.{EmptyStore}
 use Rattle.cdb_crash.proofs.Paths.{not_head, at_most-none, at_most-one}
 use Rattle.cdb_crash.proofs.HeadSteps.{heads_differ}
-use Rattle.cdb_crash.proofs.HeadTexts.{gap}
 use Rattle.cdb_crash.proofs.StoreLaws.{none_beyond}
 use Rattle.cdb_crash.proofs.Barrier.{whole_alone}
 
@@ -68,8 +68,8 @@ empty_store = record {
   empty = none_stands;
   new_head = λ bytes. with_one new_head_path bytes (λ e. heads_differ (sym e)) (inl refl);
   leftover = λ path bytes under. with_one path bytes (not_head 1 path under) (inr under);
-  head = λ bytes stands. gap bytes (sym stands.head ∙ put-same (λ p. None) head_path (Some bytes));
-  stray = λ path bytes under stands. gap bytes
+  head = λ bytes stands. none-some bytes (sym stands.head ∙ put-same (λ p. None) head_path (Some bytes));
+  stray = λ path bytes under stands. none-some bytes
       (sym (none_beyond [] (put (λ p. None) path (Some bytes)) stands 2 (omega arith) path under)
       ∙ put-same (λ p. None) path (Some bytes));
   disk = record {

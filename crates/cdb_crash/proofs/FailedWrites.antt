@@ -7,6 +7,7 @@ use Rattle.cdb_model.proofs.MapLaws.{put-same}
 use Rattle.cdb_files.specs.Disk.{State, Fails, after_create, after_make_dir}
 use Rattle.cdb_files.specs.Whole.{FailsFill, FailsWrite, after_pieces}
 use Rattle.cdb_files.proofs.StateLaws.{create-only, fails-only, fails_fill-only, pieces-only, pieces-there}
+use Rattle.cdb_files.proofs.StateLaws.{make_dir-present}
 use Rattle.cdb_crash.specs.Crash.{IsClear}
 use Rattle.cdb_crash.specs.StepLaws.{FailedWrite, FailedWrites}
 use Rattle.cdb_crash.proofs.ClearLaws.{clear_but, clear_but_new_head, clear_stays}
@@ -15,10 +16,7 @@ made_kept : (folder : Text) (old : State) (q : Text) → IsTrue (old.made q) →
 unfolding after_make_dir
 made_kept folder old q was = or_left (old.made q) (is_at_or_above q folder) was
 
-present_kept : (folder : Text) (old : State) → (after_make_dir folder old).present ≡ old.present
-unfolding after_make_dir
-present_kept folder old = refl
-
+-- Calls that change no file.
 pieces-made : (path : Text) (bytes : List ℕ) (s : State) → (after_pieces path bytes s).made ≡ s.made
 unfolding after_pieces
 pieces-made path bytes s = refl
@@ -46,7 +44,7 @@ module _ (folder path : Text) (bytes : List ℕ) (old new : State) where
           ⊎ (new.present ≡ (after_create path (after_make_dir folder old)).present)
           → (new.present path ≡ old.present path)
           ⊎ ((n : ℕ) × (n ≤ length bytes) × (new.present path ≡ Some (take n bytes)))
-      of (inl e) = inl (ap (λ (m : FileMap). m path) (e ∙ present_kept folder old))
+      of (inl e) = inl (ap (λ (m : FileMap). m path) (e ∙ make_dir-present folder old))
       of (inr e) = inr ((0, omega arith, ap (λ (m : FileMap). m path) e ∙ created-at path (after_make_dir folder old)))
   fill_file (FailsFill.after_part n le e) =
       inr ((n, le, ap (λ (s : State). s.present path) e ∙ pieces-at path (take n bytes) (after_make_dir folder old)))

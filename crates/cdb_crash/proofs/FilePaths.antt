@@ -7,13 +7,7 @@ use Rattle.cdb_source.specs.declared.source.Source.{Source}
 use Rattle.cdb_model.specs.Maps.{Text}
 use Rattle.cdb_model.specs.Names.{record_path, source_path, path}
 use Rattle.cdb_model.specs.Stands.{IsVersionFile}
-
--- two digits tell their number, and four theirs
-two_tell : (m n : ℕ) → 48 + m / 10 ≡ 48 + n / 10 → 48 + m % 10 ≡ 48 + n % 10 → m ≡ n
-two_tell m n high low = omega arith
-
-by_hundreds : (m n : ℕ) → m / 100 ≡ n / 100 → m % 100 ≡ n % 100 → m ≡ n
-by_hundreds m n high low = omega arith
+use Rattle.cdb_names.proofs.VersionLaws.{two_tell, by_hundreds}
 
 pub source_paths_tell : (v i j : ℕ) → source_path v i ≡ source_path v j → i ≡ j
 source_paths_tell v i j e =

@@ -7,11 +7,12 @@ use Rattle.cdb_model.proofs.MapLaws.{put-same, put-other, same_text}
 use Rattle.cdb_files.specs.Disk.{State, Possible, IsImage, Allows, IsSettledAt, added, after_rename, Fails}
 use Rattle.cdb_files.specs.Moments.{IsBetween}
 use Rattle.cdb_files.specs.Whole.{IsImageBut, after_fill}
+use Rattle.cdb_files.proofs.StateLaws.{sync_dir-present}
 use Rattle.cdb_crash.specs.Leftovers.{IsOfVersion}
 use Rattle.cdb_crash.specs.Crash.{SameButHeads, IsClean, IsEither, IsReadyForHead, head_filled, head_renamed, head_synced}
 use Rattle.cdb_crash.proofs.Facts.{IsLayout}
 use Rattle.cdb_crash.proofs.Paths.{not_head, not_new_head}
-use Rattle.cdb_crash.proofs.Possible.{sync_dir-allowed, sync_dir-kept, sync_dir-present, kept-settled, added-either, added-listed, image_put}
+use Rattle.cdb_crash.proofs.Possible.{sync_dir-allowed, sync_dir-kept, kept-settled, added-either, added-listed, image_put}
 use Rattle.cdb_crash.proofs.Law.{stands_but}
 
 -- ---- the two heads

@@ -1,20 +1,9 @@
 -- The head's file tells the number of the newest version.
-use Rattle.std.proofs.Common.{◌≡◌, ℕ, List, [], ◌∷◌, None, Some, sym, ap, subst, arith, ◌≤◌}
+use Rattle.std.proofs.Common.{◌≡◌, ℕ, [], ◌∷◌, arith, ◌≤◌}
 use Rattle.std.specs.Prelude.{decimal}
 use Rattle.std.proofs.lemmas.Fmt.{decimal_injective}
 use Rattle.std.proofs.lemmas.List.{append_cancel_right}
-use Rattle.cdb_model.specs.Maps.{Content, IsThere}
 use Rattle.cdb_model.specs.Records.{head_file_text}
-
-pub gap : (bytes : List ℕ) → None ≡ Some bytes → ⊥
-gap bytes e = let T : Content → Type 0 = IsThere in subst T (sym e) tt
-
-pub some_same : (a b : List ℕ) → Some a ≡ Some b → a ≡ b
-some_same a b e = ap bytes_in e
-  where
-    bytes_in : Content → List ℕ
-    bytes_in None = []
-    bytes_in (Some bytes) = bytes
 
 pub head_text_tells : (j k : ℕ) → j ≤ 4097 → k ≤ 4097 → head_file_text j ≡ head_file_text k → j ≡ k
 head_text_tells j k few small e = decimal_injective j k (omega (arith, few)) (omega (arith, small))

@@ -1,8 +1,9 @@
 -- The file of a tile in the last version that touches it has the bytes that all sources give.
-use Rattle.std.proofs.Common.{◌≡◌, ℕ, zero, suc, ◌+◌, ◌<◌, List, [], ◌∷◌, ◌++◌, length, get_or, Option, Some, None, refl, sym, ap, ◌∙◌, subst, arith, append_assoc}
+use Rattle.std.proofs.Common.{◌≡◌, ℕ, zero, suc, ◌+◌, ◌<◌, List, [], ◌∷◌, ◌++◌, length, get_or, Some, refl, sym, ap, ◌∙◌, subst, arith, append_assoc}
 use Rattle.std.specs.Prelude.{slice_get, All, Contains}
 use Rattle.std.proofs.lemmas.Grind.{flat_map-append}
 use Rattle.std.proofs.lemmas.List.Elements.{All-append}
+use Rattle.std.proofs.lemmas.Option.{slice_get_within}
 use Rattle.cdb_grid.specs.declared.tile.Tile.{Tile}
 use Rattle.cdb_source.specs.Reached.{Reached, Reaches, IsTouched}
 use Rattle.cdb_source.specs.declared.source.Source.{Source}
@@ -12,25 +13,12 @@ use Rattle.cdb_model.specs.Maps.{FileMap}
 use Rattle.cdb_model.specs.Names.{path}
 use Rattle.cdb_model.specs.Stands.{ArePublications, IsVersionFile, Stands}
 use Rattle.cdb_model.specs.TileFile.{tile_bytes}
+use Rattle.cdb_source.proofs.Lists.{some_at, split, Split}
 use Rattle.cdb_files.specs.Disk.{State}
 use Rattle.cdb_crash.specs.Plan.{IsMidAfter, tile_file}
 use Rattle.cdb_crash.specs.StepLaws.{AreTouched, NewestFiles}
 use Rattle.cdb_crash.proofs.PlanLaws.{plan_keeps}
 use Rattle.cdb_crash.proofs.PlanNumbers.{tile_at}
-
-none_some : {A B : Type 0} (y : A) → None ≡ Some y → B
-none_some {A = A} {B = B} y e = let P : Option A → Type 0 = Gone in absurd (subst P e tt)
-  where
-    Gone : Option A → Type 0
-    Gone None = Unit {0}
-    Gone (Some z) = ⊥
-
-pub some_is : {A : Type 0} (y z : A) → Some y ≡ Some z → y ≡ z
-some_is {A = A} y z e = ap value e
-  where
-    value : Option A → A
-    value None = y
-    value (Some w) = w
 
 sources_of-append : (P Q : List (List Source)) → sources_of (P ++ Q) ≡ sources_of P ++ sources_of Q
 sources_of-append P Q = flat_map-append (λ sources. sources) P Q
@@ -47,45 +35,6 @@ older_file bytes m P earlier y later t stands is reached untouched =
     (IsVersionFile.of_tile t reached)
     ∙ ap (λ b. Some b) (sym (bytes.untouched t (sources_of (earlier ++ y ∷ [])) (sources_of later) untouched)
     ∙ ap (λ ss. tile_bytes ss t) (sym (sources_of-append (earlier ++ y ∷ []) later) ∙ ap sources_of (sym one ∙ sym is)))
-
-pub some_at : {A : Type 0} (xs : List A) (k : ℕ) → k < length xs → (x : A) × (slice_get xs k ≡ Some x)
-some_at [] k l = absurd (omega (arith, l))
-some_at (x ∷ xs) zero l = (x, refl)
-some_at (x ∷ xs) (suc k) l = some_at xs k (omega (arith, l))
-
-pub in_range : {A : Type 0} (xs : List A) (k : ℕ) (r : A) → slice_get xs k ≡ Some r → k < length xs
-in_range [] k r e = none_some r e
-in_range (z ∷ xs) zero r e = omega arith
-in_range (z ∷ xs) (suc k) r e = omega (arith, in_range xs k r e)
-
-record Split {A : Type 0} (xs : List A) (k : ℕ) (y : A) : Type 0 where
-  pub earlier : List A
-  pub later : List A
-  pub is : xs ≡ earlier ++ y ∷ later
-  pub size : length earlier ≡ k
-  pub rest : (i : ℕ) (z : A) → slice_get later i ≡ Some z → slice_get xs (k + 1 + i) ≡ Some z
-
-split : {A : Type 0} (xs : List A) (k : ℕ) (y : A) → slice_get xs k ≡ Some y → Split xs k y
-split [] k y e = none_some y e
-split {A = A} (x ∷ xs) zero y e = record {
-  earlier = [];
-  later = xs;
-  is = ap (λ z. z ∷ xs) (some_is x y e);
-  size = refl;
-  rest = λ i z at. let G : ℕ → Type 0 = λ j. slice_get (x ∷ xs) j ≡ Some z in
-      let n : suc i ≡ 0 + 1 + i = omega arith in subst G n at;
-}
-split {A = A} (x ∷ xs) (suc k) y e = up (split xs k y e)
-  where
-    up : Split xs k y → Split (x ∷ xs) (suc k) y
-    up s = record {
-      earlier = x ∷ s.earlier;
-      later = s.later;
-      is = ap (λ t. x ∷ t) s.is;
-      size = ap suc s.size;
-      rest = λ i z at. let G : ℕ → Type 0 = λ j. slice_get (x ∷ xs) j ≡ Some z in
-          let n : suc (k + 1 + i) ≡ suc k + 1 + i = omega arith in subst G n (s.rest i z at);
-    }
 
 head_at : (z : List Source) (k : ℕ) (d : Source) → k < length z → slice_get (heads_of z) k ≡ Some (get_or z k d).head
 head_at [] k d l = absurd (omega (arith, l))
@@ -112,7 +61,7 @@ pub newest_before : (bytes : BytesByReaching) (m : FileMap) (lists : List (List 
     → ((j : ℕ) (later : List Tile) → k < j → slice_get lists j ≡ Some later → Contains later t → ⊥)
     → m (path (k + 1) t) ≡ Some (tile_bytes (sources_of P) t)
 newest_before bytes m lists P t k tiles stands are at has later =
-    let y = some_at P k (omega (arith, in_range lists k tiles at, are.count)) in
+    let y = some_at P k (omega (arith, slice_get_within lists k tiles at, are.count)) in
     let s = split P k (y.0) (y.1) in
     let M : ℕ → Type 0 = λ n. m (path (n + 1) t) ≡ Some (tile_bytes (sources_of P) t) in
     subst M s.size
@@ -123,7 +72,7 @@ newest_before bytes m lists P t k tiles stands are at has later =
         → Reached (heads_of z) t → ⊥
     unreached s i z there reached =
         let place = s.rest i z there in
-        let q = some_at lists (k + 1 + i) (omega (arith, in_range P (k + 1 + i) z place, are.count)) in
+        let q = some_at lists (k + 1 + i) (omega (arith, slice_get_within P (k + 1 + i) z place, are.count)) in
         later (k + 1 + i) (q.0) (omega arith) (q.1) (((are.each (k + 1 + i) (q.0) z (q.1) place).exact t).1 reached)
 
 -- A publication that doesn't reach a tile leaves its bytes.
@@ -137,7 +86,7 @@ pub none_before : (lists : List (List Tile)) (P : List (List Source)) (t : Tile)
     → All (λ (s : Source). Reaches s.head t → ⊥) (sources_of P)
 none_before lists P t are never =
     none_of_later t P (λ i z there reached.
-    let q = some_at lists i (omega (arith, in_range P i z there, are.count)) in
+    let q = some_at lists i (omega (arith, slice_get_within P i z there, are.count)) in
     never i (q.0) (q.1) (((are.each i (q.0) z (q.1) there).exact t).1 reached))
 
 -- In this version, once its step is made.

@@ -1,7 +1,8 @@
 -- A map stands for at most one list.
-use Rattle.std.proofs.Common.{◌≡◌, ℕ, suc, ◌+◌, ◌≤◌, List, [], ◌∷◌, ◌++◌, length, append_assoc, Option, None, Some, Ok, refl, sym, ap, ◌∙◌, subst, arith}
+use Rattle.std.proofs.Common.{◌≡◌, ℕ, suc, ◌+◌, ◌≤◌, List, [], ◌∷◌, ◌++◌, length, append_assoc, Some, refl, sym, ap, ◌∙◌, subst, arith}
 use Rattle.std.specs.Prelude.{slice_get}
-use Rattle.cdb_source.proofs.DecodingLaws.{gives}
+use Rattle.std.proofs.lemmas.Option.{same_Some, none-some}
+use Rattle.cdb_source.proofs.DecodingLaws.{one_source}
 use Rattle.cdb_source.specs.Texts.{source_text}
 use Rattle.cdb_source.specs.declared.source.Source.{Source}
 use Rattle.cdb_model.specs.Maps.{Content, FileMap, IsThere}
@@ -11,26 +12,8 @@ use Rattle.cdb_model.specs.Stands.{HasVersion, IsVersionFile, head_content, Stan
 use Rattle.cdb_crash.specs.Leftovers.{IsOfVersion}
 use Rattle.cdb_crash.specs.Laws.{OneList}
 use Rattle.cdb_crash.proofs.FilePaths.{file_at_source}
-use Rattle.cdb_crash.proofs.HeadTexts.{head_text_tells, gap, some_same}
+use Rattle.cdb_crash.proofs.HeadTexts.{head_text_tells}
 use Rattle.cdb_crash.proofs.StoreLaws.{file_under}
-
--- The text of a source file tells the source.
-sources_tell : (a b : Source) → source_text a ≡ source_text b → a ≡ b
-sources_tell a b e = sym (gives (source_text a) (Ok b) e tt a refl)
-
-some_source : {A : Type 0} (a b : A) → Some a ≡ Some b → a ≡ b
-some_source {A = A} a b e = ap value e
-  where
-    value : Option A → A
-    value None = a
-    value (Some x) = x
-
-none_source : {A : Type 0} (a : A) → None ≡ Some a → ⊥
-none_source {A = A} a e = let P : Option A → Type 0 = Gone in subst P e tt
-  where
-    Gone : Option A → Type 0
-    Gone None = Unit {0}
-    Gone (Some x) = ⊥
 
 -- A source of one publication is the source of the other at its number.
 source_of_other : (m : FileMap) (earlier : List (List Source)) (xs ys : List Source) → HasVersion m earlier xs
@@ -54,16 +37,16 @@ source_of_other m earlier xs ys a b i s at =
         of : (t : Source) × (slice_get ys i ≡ Some t) × (bytes ≡ source_text t) → slice_get ys i ≡ Some s
         of (t, at_i, is) = at_i
             ∙ ap (λ x. Some x)
-            (sources_tell t s (sym is ∙ some_same bytes (source_text s) (sym (b.there _ bytes file) ∙ has)))
+            (one_source t s (sym is ∙ same_Some bytes (source_text s) (sym (b.there _ bytes file) ∙ has)))
 
 -- Lists with the same elements at the same places.
 same_elements : {A : Type 0} (xs ys : List A) → ((i : ℕ) (s : A) → slice_get xs i ≡ Some s → slice_get ys i ≡ Some s)
     → ((i : ℕ) (s : A) → slice_get ys i ≡ Some s → slice_get xs i ≡ Some s) → xs ≡ ys
 same_elements [] [] f g = refl
-same_elements [] (y ∷ ys) f g = absurd (none_source y (g 0 y refl))
-same_elements (x ∷ xs) [] f g = absurd (none_source x (f 0 x refl))
+same_elements [] (y ∷ ys) f g = absurd (none-some y (g 0 y refl))
+same_elements (x ∷ xs) [] f g = absurd (none-some x (f 0 x refl))
 same_elements (x ∷ xs) (y ∷ ys) f g =
-    let first = some_source x y (sym (f 0 x refl)) in
+    let first = same_Some x y (sym (f 0 x refl)) in
     let rest = same_elements xs ys (λ i s e. f (suc i) s e) (λ i s e. g (suc i) s e) in
     λ i. first i ∷ rest i
 
@@ -108,8 +91,8 @@ one_list m P Q a b =
     lengths : (P Q : List (List Source)) → length P ≤ 4096 → length Q ≤ 4096 → head_content P ≡ head_content Q
         → length P ≡ length Q
     lengths [] [] f g e = refl
-    lengths [] (y ∷ Q) f g e = absurd (gap (head_file_text (length (y ∷ Q))) e)
-    lengths (x ∷ P) [] f g e = absurd (gap (head_file_text (length (x ∷ P))) (sym e))
+    lengths [] (y ∷ Q) f g e = absurd (none-some (head_file_text (length (y ∷ Q))) e)
+    lengths (x ∷ P) [] f g e = absurd (none-some (head_file_text (length (x ∷ P))) (sym e))
     lengths (x ∷ P) (y ∷ Q) f g e = head_text_tells (length (x ∷ P)) (length (y ∷ Q)) (omega (arith, f))
         (omega (arith, g))
-        (some_same (head_file_text (length (x ∷ P))) (head_file_text (length (y ∷ Q))) e)
+        (same_Some (head_file_text (length (x ∷ P))) (head_file_text (length (y ∷ Q))) e)

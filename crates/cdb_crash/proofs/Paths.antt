@@ -1,12 +1,13 @@
 -- Paths of versions and of the two heads are apart, and lists that have all paths of a kind.
 use Rattle.std.proofs.Common.{◌≡◌, ◌≢◌, ℕ, zero, suc, get_or, ◌+◌, ◌-◌, ◌<◌, ◌≤◌, true, ◌⊎◌, inl, inr, List, [], ◌∷◌, ◌++◌, length, refl, sym, ◌∙◌, subst, arith, append_assoc}
 use Rattle.std.specs.Prelude.{nat_eq}
-use Rattle.std.proofs.lemmas.Bool.{true≢false, and_parts, and_from, eqb-true, eq-eqb}
+use Rattle.std.proofs.lemmas.Bool.{true≢false, and_parts, eqb-true}
 use Rattle.std.specs.List.{starts_with, Contains}
 use Rattle.cdb_model.specs.Maps.{Text, is_under, folder_prefix}
 use Rattle.cdb_model.specs.Names.{version_folder, head_path, new_head_path, IsUnder}
 use Rattle.cdb_model.specs.Stands.{AtMost}
 use Rattle.cdb_names.proofs.VersionLaws.{folders_apart, head_apart, new_head_apart}
+use Rattle.cdb_names.proofs.FieldLaws.{starts_again}
 use Rattle.cdb_crash.specs.Leftovers.{IsOfVersion}
 
 starts : (prefix path : Text) → starts_with nat_eq path prefix ≡ true → (rest : Text) × (path ≡ prefix ++ rest)
@@ -23,14 +24,9 @@ is_under-IsUnder version path under =
     let rest = starts (folder_prefix (version_folder version)) path under in
     (rest.0, rest.1 ∙ append_assoc (version_folder version) (47 ∷ []) (rest.0))
 
-starts_back : (prefix rest : Text) → starts_with nat_eq (prefix ++ rest) prefix ≡ true
-starts_back [] rest = refl
-starts_back (c ∷ prefix) rest = and_from (nat_eq c c) (starts_with nat_eq (prefix ++ rest) prefix) (eq-eqb c c refl)
-    (starts_back prefix rest)
-
 pub under_folder : (version : ℕ) (rest : Text) → IsOfVersion version (folder_prefix (version_folder version) ++ rest)
 unfolding is_under
-under_folder version rest = starts_back (folder_prefix (version_folder version)) rest
+under_folder version rest = starts_again (folder_prefix (version_folder version)) rest
 
 pub versions_apart : (j k : ℕ) (path : Text) → IsOfVersion j path → IsOfVersion k path → j ≡ k
 versions_apart j k path a b = folders_apart j k path (is_under-IsUnder j path a) (is_under-IsUnder k path b)

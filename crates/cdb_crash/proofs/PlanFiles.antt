@@ -1,28 +1,27 @@
 -- The files of a plan are those of the version, each with its bytes, and they are few.
-use Rattle.std.proofs.Common.{◌≡◌, ℕ, zero, suc, ◌+◌, ◌<◌, ◌⊎◌, inl, inr, ℤ, List, [], ◌∷◌, ◌++◌, length, length-append, get_or, drop, map, Option, None, Some, Result, Ok, refl, sym, ap, ◌∙◌, subst, arith}
+use Rattle.std.proofs.Common.{◌≡◌, ℕ, zero, suc, ◌+◌, ◌<◌, ◌⊎◌, inl, inr, ℤ, List, [], ◌∷◌, ◌++◌, length, length-append, get_or, drop, map, Option, None, Some, refl, sym, ap, ◌∙◌, subst, arith}
 use Rattle.std.specs.Prelude.{slice_get}
 use Rattle.std.specs.List.{Contains}
 use Rattle.std.proofs.lemmas.List.Elements.{Contains-append_left, Contains-append_right}
+use Rattle.std.proofs.lemmas.Option.{same_Some}
 use Rattle.cdb_grid.specs.declared.tile.Tile.{Tile}
 use Rattle.cdb_source.specs.Reached.{IsTouched}
 use Rattle.cdb_source.proofs.LoadLaws.{LoadTiles, load_tiles}
 use Rattle.cdb_source.specs.Texts.{source_text}
 use Rattle.cdb_source.specs.declared.source.Source.{Source}
+use Rattle.cdb_source.proofs.Lists.{contains_later}
 use Rattle.cdb_model.specs.Publications.{heads_of, sources_of}
 use Rattle.cdb_model.specs.Maps.{Text, FileMap, IsThere}
 use Rattle.cdb_model.specs.Names.{record_path, source_path, path, name, fields_of_path, spell}
-use Rattle.cdb_model.specs.declared.name_error.NameError.{NameError}
 use Rattle.cdb_model.specs.Stands.{IsPublication, ArePublications, IsVersionFile}
 use Rattle.cdb_model.specs.TileFile.{tile_bytes}
 use Rattle.cdb_names.specs.Fields.{across}
 use Rattle.cdb_names.specs.inside.Fields.{lat_folder_at, lon_folder_at, dataset_folder_at, level_folder_at, up_folder_at}
-use Rattle.cdb_names.specs.Reading.{Spelled, spelled_tile, name_at, dataset_folder_of}
-use Rattle.cdb_names.proofs.NameLaws.{name_again}
-use Rattle.cdb_names.proofs.NameResults.{anywhere}
+use Rattle.cdb_names.specs.Reading.{dataset_folder_of}
+use Rattle.cdb_names.proofs.NameResults.{one_tile}
 use Rattle.cdb_names.proofs.PathFieldLaws.{dataset_folder_again, level_for_folder}
 use Rattle.cdb_names.proofs.PathLaws.{lat_reads, lon_reads, level_reads, up_reads}
-use Rattle.cdb_names.proofs.SameTile.{same_tile}
-use Rattle.cdb_names.proofs.Tools.{pair_is, some_is}
+use Rattle.cdb_names.proofs.Tools.{pair_is}
 use Rattle.cdb_crash.specs.Leftovers.{HasAtMost}
 use Rattle.cdb_crash.specs.Plan.{File, source_files, tile_file, files_of}
 use Rattle.cdb_crash.proofs.FilePaths.{source_paths_tell, record_isnt_source, tile_isnt_source, tile_isnt_record}
@@ -31,16 +30,7 @@ use Rattle.cdb_crash.proofs.PlanLists.{Each, each-append, each-map, Some_of, som
 -- ---- the path of a tile tells the tile
 next : {Y : Type 0} (read : Text → Option (Y × Text)) (t u : Text) (x y : Y) (r s : Text) → read t ≡ Some (x, r)
     → read u ≡ Some (y, s) → t ≡ u → (x ≡ y) × (r ≡ s)
-next read t u x y r s p q e = pair_is x y r s (some_is (x, r) (y, s) (sym p ∙ ap read e ∙ q))
-
-names_tell : (a b : Tile) → name a ≡ name b → a ≡ b
-unfolding anywhere
-names_tell a b e =
-    let again : name_at None (name a) (name a) ≡ Ok (spelled_tile a) = name_again None tt (name a) (anywhere a) in
-    let other : name_at None (name a) (name a) ≡ Ok (spelled_tile b) = ap (λ (x : Text). name_at None (name a) x) e
-    ∙ name_again None tt (name a) (anywhere b) in
-    let k : ◌≡◌ {A = Result Spelled NameError} (Ok (spelled_tile a)) (Ok (spelled_tile b)) = sym again ∙ other in
-    same_tile a b cc
+next read t u x y r s p q e = pair_is x y r s (same_Some (x, r) (y, s) (sym p ∙ ap read e ∙ q))
 
 -- What is left of a path after so many of its fields.
 abbrev left : ℕ → Tile → ℕ → Text
@@ -63,7 +53,7 @@ tile_paths_tell v a b e =
     let up = next (up_folder_at (across (level_for_folder a.level.number))) (left v a 6) (left v b 6) a.up b.up (name a)
     (name b) (up_reads a (name a))
     (ap (λ (l : ℤ). up_folder_at (across l) (left v b 6)) level.0 ∙ up_reads b (name b)) level.1 in
-    names_tell a b up.1
+    one_tile a b up.1
 
 -- ---- one path, one file
 pub same_file : (P : List (List Source)) (x : List Source) (tiles : List Tile) (p q : Text) (b c : List ℕ)
@@ -78,7 +68,7 @@ same_file P x tiles p q b c (IsVersionFile.of_source i s at) (IsVersionFile.of_r
 same_file P x tiles p q b c (IsVersionFile.of_source i s at) (IsVersionFile.of_source j t at_j) e =
     let same = source_paths_tell (length P + 1) (i + 1) (j + 1) e in
     let at_i : slice_get x j ≡ Some s = subst (λ (k : ℕ). slice_get x k ≡ Some s) (omega (arith, same)) at in
-    ap source_text (some_is s t (sym at_i ∙ at_j))
+    ap source_text (same_Some s t (sym at_i ∙ at_j))
 same_file P x tiles p q b c (IsVersionFile.of_source i s at) (IsVersionFile.of_tile t reached) e =
     absurd (tile_isnt_source (length P + 1) (i + 1) t (sym e))
 same_file P x tiles p q b c (IsVersionFile.of_tile t reached) (IsVersionFile.of_record) e =
@@ -89,9 +79,6 @@ same_file P x tiles p q b c (IsVersionFile.of_tile t reached) (IsVersionFile.of_
     ap (tile_bytes (sources_of (P ++ x ∷ []))) (tile_paths_tell (length P + 1) t u e)
 
 -- ---- the files of the plan are files of the version
-contains_later : {A : Type 0} (y : A) (xs : List A) (z : A) → Contains xs z → Contains (y ∷ xs) z
-contains_later y xs z (k, l, e) = (suc k, omega (arith, l), e)
-
 each_contained : {A : Type 0} (Such : A → Type 0) (xs : List A) → ((y : A) → Contains xs y → Such y) → Each Such xs
 each_contained Such [] such = tt
 each_contained Such (x ∷ xs) such =
@@ -186,7 +173,8 @@ tile_paths-length : (v : ℕ) (tiles : List Tile) → length (map (path v) tiles
 tile_paths-length v [] = refl
 tile_paths-length v (t ∷ tiles) = ap suc (tile_paths-length v tiles)
 
-source_files-length : (v number : ℕ) (sources : List Source) → length (source_files v number sources) ≡ length sources
+pub source_files-length : (v number : ℕ) (sources : List Source) → length (source_files v number sources)
+    ≡ length sources
 source_files-length v number [] = refl
 source_files-length v number (s ∷ sources) = ap suc (source_files-length v (number + 1) sources)
 

@@ -1,9 +1,10 @@
 -- The steps of a publication lead from a clean disk to where its head alone is left.
-use Rattle.std.proofs.Common.{◌≡◌, ◌≢◌, ℕ, zero, suc, ◌+◌, ◌<◌, Bool, true, false, ◌⊎◌, inl, inr, List, [], ◌∷◌, ◌++◌, length, length-append, get_or, take, drop, map, Option, None, Some, IsTrue, refl, sym, ap, ◌∙◌, subst, arith}
+use Rattle.std.proofs.Common.{◌≡◌, ◌≢◌, ℕ, zero, suc, ◌+◌, ◌<◌, Bool, true, false, ◌⊎◌, inl, inr, List, [], ◌∷◌, ◌++◌, length, length-append, get_or, take, drop, map, None, Some, IsTrue, refl, sym, ap, ◌∙◌, subst, arith}
 use Rattle.std.specs.Prelude.{slice_get, codes, ◌==◌}
 use Rattle.std.proofs.lemmas.Bool.{cond-true, or_left, or_right}
 use Rattle.std.proofs.lemmas.List.{take-append-drop, take_all, length-map}
 use Rattle.std.proofs.lemmas.List.Sums.{fold_push}
+use Rattle.std.proofs.lemmas.Option.{same_Some, none-some}
 use Rattle.cdb_grid.specs.declared.tile.Tile.{Tile}
 use Rattle.cdb_source.specs.Reached.{IsTouched}
 use Rattle.cdb_source.specs.declared.source.Source.{Source}
@@ -21,21 +22,16 @@ use Rattle.cdb_crash.proofs.CallLaws.{begins_clean, path_calls, write-here}
 use Rattle.cdb_crash.proofs.Law.{stands_but}
 use Rattle.cdb_crash.proofs.Steps.{mid_room, write_step, folder_step, ready_step}
 use Rattle.cdb_crash.proofs.StoreLaws.{store_layout, file_under, next_local}
-use Rattle.cdb_crash.proofs.PlanFiles.{same_file, files_good, file_of_plan, few_files}
+use Rattle.cdb_crash.proofs.PlanFiles.{same_file, files_good, file_of_plan, few_files, source_files-length}
 use Rattle.cdb_crash.proofs.PlanLists.{Each, each-append, each-front, each-back, each-map, each-wider, each-all, each-once, Some_of, some-left, some-right, some-map, some-once, split_two, Writes_bytes, there_written, written, Syncs, Leaves, not_synced, are_synced}
 
 -- ---- how many steps
-pub source_files-count : (v number : ℕ) (sources : List Source) → length (source_files v number sources)
-    ≡ length sources
-source_files-count v number [] = refl
-source_files-count v number (s ∷ sources) = ap suc (source_files-count v (number + 1) sources)
-
 pub files-count : (P : List (List Source)) (x : List Source) (tiles : List Tile) → length (files_of P x tiles)
     ≡ length x + length tiles
 files-count P x tiles = omega (
   arith,
   length-append (source_files (length P + 1) 1 x) (map (tile_file (length P + 1) (sources_of (P ++ x ∷ []))) tiles),
-  source_files-count (length P + 1) 1 x,
+  source_files-length (length P + 1) 1 x,
   length-map tiles (tile_file (length P + 1) (sources_of (P ++ x ∷ []))),
 )
 
@@ -53,14 +49,14 @@ plan_count P x tiles =
     omega (arith, a, b, c, f, g)
 
 -- The folders of the files are those of their paths.
-source_files-paths : (v number : ℕ) (sources : List Source)
+pub source_files-paths : (v number : ℕ) (sources : List Source)
     → map (λ (file : File). folder_above file.path) (source_files v number sources)
     ≡ map folder_above (source_paths v number sources)
 source_files-paths v number [] = refl
 source_files-paths v number (s ∷ sources) = ap (λ t. folder_above (source_path v number) ∷ t)
     (source_files-paths v (number + 1) sources)
 
-tile_files-paths : (v : ℕ) (all : List Source) (tiles : List Tile)
+pub tile_files-paths : (v : ℕ) (all : List Source) (tiles : List Tile)
     → map (λ (file : File). folder_above file.path) (map (tile_file v all) tiles)
     ≡ map folder_above (map (path v) tiles)
 tile_files-paths v all [] = refl
@@ -82,29 +78,15 @@ folders_by_paths P x tiles =
     ∙ sym (map-both folder_above (source_paths v 1 x) (map (path v) tiles)))
 
 -- ---- a step by its number
-none_some : {A : Type 0} (y : A) → None ≡ Some y → ⊥
-none_some {A = A} y e = let P : Option A → Type 0 = Gone in subst P e tt
-  where
-    Gone : Option A → Type 0
-    Gone None = Unit {0}
-    Gone (Some z) = ⊥
-
-some_is : {A : Type 0} (y z : A) → Some y ≡ Some z → y ≡ z
-some_is {A = A} y z e = ap value e
-  where
-    value : Option A → A
-    value None = y
-    value (Some w) = w
-
 record At {A : Type 0} (xs : List A) (j : ℕ) (y : A) : Type 0 where
   pub rest : List A
   pub split : xs ≡ take j xs ++ y ∷ rest
   pub more : take (suc j) xs ≡ take j xs ++ y ∷ []
 
 at_number : {A : Type 0} (xs : List A) (j : ℕ) (y : A) → slice_get xs j ≡ Some y → At xs j y
-at_number [] j y e = absurd (none_some y e)
+at_number [] j y e = absurd (none-some y e)
 at_number (x ∷ xs) zero y e =
-    record { rest = xs; split = ap (λ z. z ∷ xs) (some_is x y e); more = ap (λ z. z ∷ []) (some_is x y e) }
+    record { rest = xs; split = ap (λ z. z ∷ xs) (same_Some x y e); more = ap (λ z. z ∷ []) (same_Some x y e) }
 at_number {A = A} (x ∷ xs) (suc j) y e = up (at_number xs j y e)
   where
     up : At xs j y → At (x ∷ xs) (suc j) y
@@ -412,10 +394,10 @@ module _ (P : List (List Source)) (x : List Source) (tiles : List Tile) (list : 
 
   among : (steps : List FileAction) (i n : ℕ) (file : File) → slice_get steps i ≡ Some (FileAction.write file) → i < n
       → Some_of (WritesTo file.path) (take n steps)
-  among [] i n file at less = absurd (none_some (FileAction.write file) at)
+  among [] i n file at less = absurd (none-some (FileAction.write file) at)
   among (y ∷ steps) i zero file at less = absurd (omega (arith, less))
   among (y ∷ steps) zero (suc n) file at less = let W : FileAction → Type 0 = WritesTo file.path in
-      inl (subst W (sym (some_is y (FileAction.write file) at)) refl)
+      inl (subst W (sym (same_Some y (FileAction.write file) at)) refl)
   among (y ∷ steps) (suc i) (suc n) file at less = inr (among steps i n file at (omega (arith, less)))
 
   -- A file that a step has written is there.

@@ -1,10 +1,10 @@
 -- Lists of steps: what they write and what they sync.
-use Rattle.std.proofs.Common.{◌≡◌, ◌≢◌, ℕ, ◌||◌, Bool, true, false, ◌⊎◌, inl, inr, List, [], ◌∷◌, ◌++◌, map, None, Some, refl, sym, ap, ◌∙◌, subst}
+use Rattle.std.proofs.Common.{◌≡◌, ◌≢◌, ℕ, Bool, true, false, ◌⊎◌, inl, inr, List, [], ◌∷◌, ◌++◌, map, None, Some, refl, sym, ap, ◌∙◌, subst}
 use Rattle.std.specs.Prelude.{filter, fold, not, if◌then◌else◌}
-use Rattle.std.proofs.lemmas.Bool.{true≢false, or_left, or_right}
+use Rattle.std.proofs.lemmas.Bool.{true≢false, or_left, or_right, or_from}
 use Rattle.std.specs.Str.{bytes_eq}
 use Rattle.cdb_model.specs.Maps.{Text, Content, FileMap, IsThere, put, folder_above}
-use Rattle.cdb_model.proofs.MapLaws.{put-same, put-other, same_text, bytes_eq-same, bytes_eq-other}
+use Rattle.cdb_model.proofs.MapLaws.{put-other, same_text, bytes_eq-same, bytes_eq-other, put-at}
 use Rattle.cdb_crash.specs.Crash.{with_folder}
 use Rattle.cdb_crash.specs.Plan.{FileAction, each_once, with_files, with_synced, files_after, synced_after, WritesTo}
 
@@ -143,9 +143,6 @@ put-there m p bytes q there = of (same_text q p)
     of (inl e) = inr e
     of (inr ne) = let T : Content → Type 0 = IsThere in inl (subst T (put-other m p (Some bytes) q ne) there)
 
-put-at : (m : FileMap) (p : Text) (v : Content) (q : Text) → q ≡ p → put m p v q ≡ v
-put-at m p v q e = ap (λ t. put m p v t) e ∙ put-same m p v
-
 there_from : (m : FileMap) (steps : List FileAction) (q : Text) → IsThere (fold with_files m steps q) → IsThere (m q)
     ⊎ Some_of (WritesTo q) steps
 there_from m [] q there = inl there
@@ -229,21 +226,16 @@ Leaves f (FileAction.write file) = Unit {0}
 Leaves f (FileAction.sync folder) = f ≢ folder
 Leaves f (FileAction.write_and_sync file) = f ≢ folder_above file.path
 
-neither : (a b : Bool) → a ≡ false → b ≡ false → (a || b) ≡ false
-neither false false e f = refl
-neither false true e f = f
-neither true b e f = absurd (true≢false e)
-
 not_synced_from : (synced : Text → Bool) (steps : List FileAction) (f : Text) → synced f ≡ false → Each (Leaves f) steps
     → fold with_synced synced steps f ≡ false
 not_synced_from synced [] f none each = none
 not_synced_from synced (FileAction.write file ∷ steps) f none each = not_synced_from synced steps f none (each.1)
 not_synced_from synced (FileAction.sync folder ∷ steps) f none each =
     not_synced_from (with_folder synced folder) steps f
-    (neither (synced f) (bytes_eq f folder) none (bytes_eq-other f folder (λ e. (each.0) (sym e)))) (each.1)
+    (or_from (synced f) (bytes_eq f folder) none (bytes_eq-other f folder (λ e. (each.0) (sym e)))) (each.1)
 not_synced_from synced (FileAction.write_and_sync file ∷ steps) f none each =
     not_synced_from (with_folder synced (folder_above file.path)) steps f
-    (neither (synced f) (bytes_eq f (folder_above file.path)) none
+    (or_from (synced f) (bytes_eq f (folder_above file.path)) none
     (bytes_eq-other f (folder_above file.path) (λ e. (each.0) (sym e)))) (each.1)
 
 pub not_synced : (steps : List FileAction) (f : Text) → Each (Leaves f) steps → synced_after steps f ≡ false

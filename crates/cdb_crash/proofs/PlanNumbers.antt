@@ -2,27 +2,18 @@
 use Rattle.std.proofs.Common.{◌≡◌, ℕ, zero, suc, ◌+◌, ◌<◌, List, [], ◌∷◌, ◌++◌, length, get_or, map, Option, Some, None, refl, sym, ap, ◌∙◌, subst, arith}
 use Rattle.std.specs.Prelude.{slice_get}
 use Rattle.std.proofs.lemmas.List.{length-map}
+use Rattle.std.proofs.lemmas.Option.{none-some}
 use Rattle.cdb_grid.specs.declared.tile.Tile.{Tile}
 use Rattle.cdb_source.specs.Texts.{source_text}
 use Rattle.cdb_source.specs.declared.source.Source.{Source}
+use Rattle.cdb_source.proofs.Lists.{get-left}
 use Rattle.cdb_model.specs.Publications.{sources_of}
 use Rattle.cdb_model.specs.Maps.{Text}
 use Rattle.cdb_model.specs.Names.{source_path, path}
 use Rattle.cdb_crash.specs.Plan.{File, FileAction, source_files, tile_file, files_of, record_of, folders_of, steps_of}
 use Rattle.cdb_crash.specs.StepLaws.{Numbers}
-use Rattle.cdb_crash.proofs.PlanLaws.{source_files-count, files-count}
-
-none_some : {A B : Type 0} (y : A) → None ≡ Some y → B
-none_some {A = A} {B = B} y e = let P : Option A → Type 0 = Gone in absurd (subst P e tt)
-  where
-    Gone : Option A → Type 0
-    Gone None = Unit {0}
-    Gone (Some z) = ⊥
-
-get-left : {A : Type 0} (xs ys : List A) (i : ℕ) (y : A) → slice_get xs i ≡ Some y → slice_get (xs ++ ys) i ≡ Some y
-get-left [] ys i y e = none_some y e
-get-left (x ∷ xs) ys zero y e = e
-get-left (x ∷ xs) ys (suc i) y e = get-left xs ys i y e
+use Rattle.cdb_crash.proofs.PlanLaws.{files-count}
+use Rattle.cdb_crash.proofs.PlanFiles.{source_files-length}
 
 get-right : {A : Type 0} (xs ys : List A) (i n : ℕ) (y : A) → n ≡ length xs + i → slice_get ys i ≡ Some y
     → slice_get (xs ++ ys) n ≡ Some y
@@ -33,7 +24,7 @@ get-right (x ∷ xs) ys i (suc n) y is e = get-right xs ys i n y (omega (arith, 
 
 pub get-map : {A B : Type 0} (f : A → B) (xs : List A) (i : ℕ) (y : A) → slice_get xs i ≡ Some y
     → slice_get (map f xs) i ≡ Some (f y)
-get-map f [] i y e = none_some y e
+get-map f [] i y e = absurd (none-some y e)
 get-map {A = A} {B = B} f (x ∷ xs) zero y e = ap (λ o. mapped o) e
   where
     mapped : Option A → Option B
@@ -44,7 +35,7 @@ get-map f (x ∷ xs) (suc i) y e = get-map f xs i y e
 get-source_files : (v from : ℕ) (sources : List Source) (i number : ℕ) (s : Source) → number ≡ from + i
     → slice_get sources i ≡ Some s
     → slice_get (source_files v from sources) i ≡ Some (record { path = source_path v number; bytes = source_text s })
-get-source_files v from [] i number s is e = none_some _ e
+get-source_files v from [] i number s is e = absurd (none-some _ e)
 get-source_files v from (t ∷ sources) zero number s is e = first (omega (arith, is)) e
   where
     file_at : ℕ → Source → File
@@ -72,7 +63,7 @@ module _ (P : List (List Source)) (x : List Source) (tiles : List Tile) where
       → slice_get (steps_of P x tiles) n
       ≡ Some (FileAction.write (tile_file (length P + 1) (sources_of (P ++ x ∷ [])) t))
   tile_at i n t is e = get-left _ _ n _ (get-map FileAction.write _ n _
-      (get-right (source_files (length P + 1) 1 x) _ i n _ (omega (arith, is, source_files-count (length P + 1) 1 x))
+      (get-right (source_files (length P + 1) 1 x) _ i n _ (omega (arith, is, source_files-length (length P + 1) 1 x))
       (get-map (tile_file (length P + 1) (sources_of (P ++ x ∷ []))) tiles i t e)))
 
   pub folder_at : (i n : ℕ) (folder : Text) → n ≡ length x + length tiles + i

@@ -45,10 +45,6 @@ unfolding after_sync_dir
 sync_dir-kept folder s q e = cond-true (bytes_eq (folder_above q) folder)
     (after_sync (s.present q) (s.may q)) (s.may q) e
 
-pub sync_dir-present : (folder : Text) (s : State) → (after_sync_dir folder s).present ≡ s.present
-unfolding after_sync_dir
-sync_dir-present folder s = refl
-
 -- What a crash leaves inside and after the sync of a folder, it might leave before.
 pub sync_dir-image : (folder : Text) (s : State) → IsImage s s.present → (m : FileMap)
     → IsImage (after_sync_dir folder s) m → IsImage s m
@@ -76,11 +72,6 @@ added-one w (x ∷ xs) v (inr a) = up (added-one w xs v a)
 pub added-either : (w : Content) (may : Possible) (v : Content) → Allows (added w may) v → Allows may v ⊎ (v ≡ w)
 added-either w None v a = inl tt
 added-either w (Some xs) v a = added-one w xs v a
-
-keeps-one : (w : Content) (xs : List Content) (v : Content) → IsOneOf xs v → IsOneOf (xs ++ w ∷ []) v
-keeps-one w [] v a = absurd a
-keeps-one w (x ∷ xs) v (inl e) = inl e
-keeps-one w (x ∷ xs) v (inr a) = inr (keeps-one w xs v a)
 
 new-one : (w : Content) (xs : List Content) → IsOneOf (xs ++ w ∷ []) w
 new-one w [] = inl refl

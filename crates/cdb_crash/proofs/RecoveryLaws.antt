@@ -9,6 +9,7 @@ use Rattle.cdb_model.specs.Records.{head_file_text}
 use Rattle.cdb_model.specs.Stands.{AtMost, Stands}
 use Rattle.cdb_model.proofs.MapLaws.{same_text}
 use Rattle.cdb_files.specs.Disk.{State, IsImage, after_remove, after_sync_dir}
+use Rattle.cdb_files.proofs.StateLaws.{sync_dir-present}
 use Rattle.cdb_crash.specs.Leftovers.{IsOfVersion, HasNext}
 use Rattle.cdb_crash.specs.Crash.{IsWhole, IsClearing}
 use Rattle.cdb_crash.specs.Laws.{Recovers}
@@ -16,7 +17,6 @@ use Rattle.cdb_crash.specs.Recovery.{after_removal, after_removals, AreLeft, aft
 use Rattle.cdb_crash.proofs.Clearing.{from_whole, goes, at_last, removed-at, removed-present, removed-here, whole_without_new_head}
 use Rattle.cdb_crash.proofs.PlanFiles.{some_contained}
 use Rattle.cdb_crash.proofs.PlanLists.{Some_of}
-use Rattle.cdb_crash.proofs.Possible.{sync_dir-present}
 use Rattle.cdb_crash.proofs.RunLaws.{sync_dir-here}
 use Rattle.cdb_crash.proofs.Steps.{whole_synced}
 use Rattle.cdb_crash.proofs.StoreLaws.{store_layout}

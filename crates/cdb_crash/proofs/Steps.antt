@@ -4,14 +4,15 @@ use Rattle.std.proofs.lemmas.Bool.{true≢false}
 use Rattle.std.specs.Str.{bytes_eq}
 use Rattle.cdb_model.specs.Maps.{Text, Content, FileMap, IsThere, put, folder_above}
 use Rattle.cdb_model.specs.Names.{new_head_path}
-use Rattle.cdb_model.proofs.MapLaws.{put-same, put-other, same_text}
+use Rattle.cdb_model.proofs.MapLaws.{put-same, put-other, same_text, put-at}
 use Rattle.cdb_files.specs.Disk.{State, Possible, IsImage, Allows, after_sync_dir, after_make_dir}
 use Rattle.cdb_files.specs.Whole.{after_fill, after_write}
+use Rattle.cdb_files.proofs.StateLaws.{sync_dir-present}
 use Rattle.cdb_crash.specs.Leftovers.{IsOfVersion, HasAtMost}
 use Rattle.cdb_crash.specs.Crash.{MayLast, with_folder, IsWhole, IsMid, HasRoom, IsReadyForHead}
 use Rattle.cdb_crash.proofs.Facts.{IsLayout}
 use Rattle.cdb_crash.proofs.Paths.{not_head, not_new_head, at_most-wider, at_most-with}
-use Rattle.cdb_crash.proofs.Possible.{sync_dir-allowed, sync_dir-image, sync_dir-kept, sync_dir-present, kept-settled, two_files}
+use Rattle.cdb_crash.proofs.Possible.{sync_dir-allowed, sync_dir-image, sync_dir-kept, kept-settled, two_files}
 use Rattle.cdb_crash.proofs.Law.{stands_but}
 
 -- ---- a file that was written and synced
@@ -43,9 +44,6 @@ write-at folder path bytes s q e v a =
     of (inl g) = inl g
     of (inr (inl g)) = inr g
     of (inr (inr g)) = absurd g
-
-put-at : (m : FileMap) (path : Text) (v : Content) (q : Text) → q ≡ path → put m path v q ≡ v
-put-at m path v q e = ap (λ t. put m path v t) e ∙ put-same m path v
 
 module _ {X : Type 0} (Stands : FileMap → List X → Type 0) (Complete : List X → X → FileMap → Type 0)
     (head_text : ℕ → List ℕ) (layout : IsLayout Stands Complete head_text) where

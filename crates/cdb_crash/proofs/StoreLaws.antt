@@ -1,5 +1,6 @@
 -- The maps that stand for a list of publications keep what the laws of a crash need of them.
 use Rattle.std.proofs.Common.{◌≡◌, ◌≢◌, ℕ, ◌+◌, ◌≤◌, ◌⊎◌, inl, inr, List, [], ◌∷◌, ◌++◌, length, length-append, None, Some, refl, sym, ap, ◌∙◌, subst, arith}
+use Rattle.std.proofs.lemmas.Option.{same_Some, none-some}
 use Rattle.cdb_grid.specs.declared.tile.Tile.{Tile}
 use Rattle.cdb_source.specs.declared.source.Source.{Source}
 use Rattle.cdb_model.specs.Maps.{Text, Content, FileMap, IsThere, NoneUnder}
@@ -12,7 +13,7 @@ use Rattle.cdb_crash.specs.Crash.{SameButHeads}
 use Rattle.cdb_crash.proofs.Facts.{IsLayout}
 use Rattle.cdb_crash.proofs.Paths.{versions_apart, not_head, not_new_head, under_folder, at_most-none}
 use Rattle.cdb_crash.proofs.HeadSteps.{heads_differ}
-use Rattle.cdb_crash.proofs.HeadTexts.{head_text_tells, gap, some_same}
+use Rattle.cdb_crash.proofs.HeadTexts.{head_text_tells}
 
 abbrev Publication : Type 0
 Publication = List Source
@@ -171,10 +172,10 @@ heads : (P : List Publication) (x : Publication) (m n : FileMap) → Stands m P 
 heads P x m n a b e = of P a.publications.few (sym a.head ∙ e ∙ b.head ∙ content-next P x)
   where
     of : (P : List Publication) → length P ≤ 4096 → head_content P ≡ Some (head_file_text (length P + 1)) → ⊥
-    of [] few e = gap (head_file_text 1) e
+    of [] few e = none-some (head_file_text 1) e
     of (y ∷ P) few e = let same = head_text_tells (length (y ∷ P)) (length (y ∷ P) + 1) (omega (arith, few))
         (omega (arith, few))
-        (some_same (head_file_text (length (y ∷ P))) (head_file_text (length (y ∷ P) + 1)) e) in omega (arith, same)
+        (same_Some (head_file_text (length (y ∷ P))) (head_file_text (length (y ∷ P) + 1)) e) in omega (arith, same)
 
 pub store_layout : IsLayout Stands HasNext head_file_text
 store_layout = record {

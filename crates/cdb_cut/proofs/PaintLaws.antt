@@ -4,7 +4,7 @@ use Rattle.std.specs.Prelude.{unsigned_abs}
 use Rattle.std.specs.Option.{option_or}
 use Rattle.std.specs.Ordering.{int_eq}
 use Rattle.std.proofs.lemmas.Int.{ints}
-use Rattle.std.proofs.lemmas.Bool.{cases_lt, cases_Bool}
+use Rattle.std.proofs.lemmas.Bool.{cases_lt, cases_Bool, le-leb}
 use Rattle.std.proofs.lemmas.Bool.Decides.{nat_tests, Decides-int_eq}
 use Rattle.std.proofs.lemmas.Option.{slice_get-get_or}
 use Rattle.std.proofs.lemmas.Nat.{div-add-mod', mod_below, mod-mul-add}
@@ -31,9 +31,10 @@ use Rattle.cdb_cut.specs.Painted.{window_post, painted_rule, IsCovered}
 use Rattle.cdb_cut.specs.OneTile.{IsPainted}
 use Rattle.cdb_cut.proofs.Plain.{near_post}
 use Rattle.cdb_cut.proofs.Raised.{High, four_scaled}
-use Rattle.cdb_cut.proofs.RowRules.{mean_same, post_looked, beyond_looked, cell_looked}
-use Rattle.cdb_cut.proofs.PaintedRows.{value_is}
+use Rattle.cdb_cut.proofs.RowRules.{mean_same, post_looked, beyond_looked, cell_looked, zero_or_more}
+use Rattle.cdb_cut.proofs.PaintedRows.{value_is, either_side, window_tests}
 use Rattle.cdb_cut.proofs.WindowLaws.{looked_at, looked_within, in_box_at, numbers_of, At}
+use Rattle.cdb_cut.proofs.PostLaws.{both_tests}
 
 -- ---- the same row is looked at, in whatever divisor distances are counted
 
@@ -60,12 +61,6 @@ before_span : (kind : Kind) (corner x wide : ℕ) → corner ≤ x → IsBefore 
 before_span Elevation corner x wide le b = omega arith
 before_span Material corner x wide le b = omega arith
 
-both_tests : (row rows col cols : ℕ) → row < rows → col < cols → (nat_lt row rows && nat_lt col cols) ≡ true
-both_tests row rows col cols a b = grind (arith, nat_tests)
-
-window_tests : (first row col cols : ℕ) → first ≤ row → col < cols → (nat_lt col cols && nat_le first row) ≡ true
-window_tests first row col cols a b = grind (arith, nat_tests)
-
 no_column : (row rows col cols : ℕ) → cols ≤ col → (nat_lt row rows && nat_lt col cols) ≡ false
 no_column row rows col cols a = grind (arith, nat_tests)
 
@@ -91,7 +86,7 @@ window_is s first count row col from to within = elim (cases_lt col s.head.cols)
       let lt_all : row * cols + col < length s.posts = omega arith in
       rw (
         window_tests first row col cols from lt,
-        both_tests row s.head.rows col cols (omega arith) lt,
+        both_tests row col s.head.rows cols (omega arith) lt,
         slice_get-get_or (rows_of s first count) ((row - first) * cols + col) (pos 0) lt_in,
         slice_get-get_or s.posts (row * cols + col) (pos 0) lt_all,
       )
@@ -104,9 +99,6 @@ window_is s first count row col from to within = elim (cases_lt col s.head.cols)
 
 -- ---- the box
 
-test_le : (m n : ℕ) → m ≤ n → nat_le m n ≡ true
-test_le m n le = grind (arith, nat_tests)
-
 test_before : (kind : Kind) (x edge : ℕ) → IsBefore kind x edge → is_before kind x edge ≡ true
 test_before Elevation x edge b = grind (arith, nat_tests)
 test_before Material x edge b = grind (arith, nat_tests)
@@ -114,9 +106,9 @@ test_before Material x edge b = grind (arith, nat_tests)
 pub box_test : (head : SourceHead) (p : Place) → IsInBox head p → is_in_box head p ≡ true
 box_test head p b =
     rw (
-      test_le (corner_of head).north p.north b.south,
+      le-leb (corner_of head).north p.north b.south,
       test_before head.kind p.north ((corner_of head).north + box_height head) b.north,
-      test_le (corner_of head).east p.east b.west,
+      le-leb (corner_of head).east p.east b.west,
       test_before head.kind p.east ((corner_of head).east + box_width head) b.east,
     ) refl
 
@@ -141,14 +133,6 @@ high_post s row col e = by (post_at s row col) (near_post s row col e)
     by : (o : Option ℤ) → IfSome o (λ v. unsigned_abs v ≤ 32767) → High o
     by None n = tt
     by (Some v) n = omega (arith, ints)
-
-zero_or_more : (b : ℕ) → (b ≡ 0) ⊎ (1 ≤ b)
-zero_or_more zero = inl refl
-zero_or_more (suc b) = inr (omega arith)
-
-either_side : {P : Type 0} (b : ℕ) → (b ≡ 0) ⊎ (1 ≤ b) → (1 ≤ b → P) → (b ≡ 0) ⊎ P
-either_side b (inl z) f = inl z
-either_side b (inr p) f = inr (f p)
 
 either_corner : {P : Type 0} (a b : ℕ) → (a ≡ 0) ⊎ (1 ≤ a) → (b ≡ 0) ⊎ (1 ≤ b) → (1 ≤ a → P) → ((a ≡ 0) ⊎ (b ≡ 0)) ⊎ P
 either_corner a b (inl z) y f = inl (inl z)

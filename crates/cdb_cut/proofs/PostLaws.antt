@@ -7,10 +7,10 @@ use Rattle.std.proofs.lemmas.Nat.{row_fits}
 use Rattle.cdb_source.specs.declared.kind.Kind.{Kind}
 use Rattle.cdb_source.specs.Sample.{value_of}
 
-inside : (row col rows cols : ℕ) → row < rows → col < cols → (nat_lt row rows && nat_lt col cols) ≡ true
-inside row col rows cols h k = grind (arith, nat_tests)
+pub both_tests : (row col rows cols : ℕ) → row < rows → col < cols → (nat_lt row rows && nat_lt col cols) ≡ true
+both_tests row col rows cols h k = grind (arith, nat_tests)
 
-index_below : (row col rows cols : ℕ) → row < rows → col < cols → row * cols + col < rows * cols
+pub index_below : (row col rows cols : ℕ) → row < rows → col < cols → row * cols + col < rows * cols
 index_below row col rows cols h k = let f : row * cols + cols ≤ rows * cols =
     row_fits row cols rows cols h (le_refl cols) in omega arith
 
@@ -22,4 +22,4 @@ pub post_is : (kind : Kind) (posts : List ℤ) (row col rows cols : ℕ) → row
     (slice_get posts (row * cols + col)) else None)
 post_is kind posts row col rows cols h k count =
     let below : row * cols + col < length posts = rw count (index_below row col rows cols h k) in
-    rw (inside row col rows cols h k, slice_get-get_or posts (row * cols + col) (pos 0) below) refl
+    rw (both_tests row col rows cols h k, slice_get-get_or posts (row * cols + col) (pos 0) below) refl

@@ -1,9 +1,10 @@
 -- Whether a tile has a window of a source, as a test.
-use Rattle.std.proofs.Common.{◌≡◌, ℕ, ◌<◌, Bool, true, false, ◌&&◌, refl, ap, ◌∙◌, subst, arith}
+use Rattle.std.proofs.Common.{◌≡◌, ℕ, ◌<◌, Bool, true, false, refl, ap, ◌∙◌, subst, arith}
 use Rattle.std.specs.List.{list_any, range_with_len}
 use Rattle.std.proofs.lemmas.List.Folds.{list_any_at, list_any_none}
 use Rattle.std.proofs.lemmas.List.FromFn.{length-range_with_len, get_or-range_with_len}
 use Rattle.std.proofs.Common.{get_or}
+use Rattle.std.proofs.lemmas.Bool.{and_from, and_left, and_right, false_from_ne_true}
 use Rattle.cdb_grid.specs.Tiles.{tile_side, element_place}
 use Rattle.cdb_grid.specs.declared.tile.Tile.{Tile}
 use Rattle.cdb_source.specs.Reached.{kind_of}
@@ -16,16 +17,6 @@ use Rattle.cdb_source.proofs.SampleLaws.{in_box}
 use Rattle.cdb_cut.specs.Window.{HasPlaceInBox, HasNoWindow, IsWindow, has_place, has_window}
 use Rattle.cdb_cut.proofs.PaintLaws.{box_test}
 
-both_true : (a b : Bool) → a ≡ true → b ≡ true → (a && b) ≡ true
-both_true a b e f = ap (λ x. x && b) e ∙ f
-
-first_false : (a b : Bool) → a ≡ false → (a && b) ≡ false
-first_false a b e = ap (λ x. x && b) e
-
-last_false : (a b : Bool) → b ≡ false → (a && b) ≡ false
-last_false true b e = e
-last_false false b e = refl
-
 same_true : (k l : Kind) → k ≡ l → same_kind k l ≡ true
 same_true k l e = subst (λ m. same_kind k m ≡ true) e (self k)
   where
@@ -33,15 +24,11 @@ same_true k l e = subst (λ m. same_kind k m ≡ true) e (self k)
     self Elevation = refl
     self Material = refl
 
-same_from : (k l : Kind) → same_kind k l ≡ true → k ≡ l
+pub same_from : (k l : Kind) → same_kind k l ≡ true → k ≡ l
 same_from Elevation Elevation e = refl
 same_from Elevation Material e = absurd cc
 same_from Material Elevation e = absurd cc
 same_from Material Material e = refl
-
-not_true : (b : Bool) → (b ≡ true → ⊥) → b ≡ false
-not_true true h = absurd (h refl)
-not_true false h = refl
 
 place_true : (head : SourceHead) (t : Tile) → HasPlaceInBox head t → has_place head t ≡ true
 unfolding has_place
@@ -72,7 +59,7 @@ place_false head t none =
     let j_below : j < n = omega (arith, length-range_with_len 0 n, m) in
     let col : get_or (range_with_len 0 n) j e ≡ j = omega (arith, get_or-range_with_len 0 n j e j_below) in
     ap (λ c. is_in_box head (element_place t i c)) col
-    ∙ not_true (is_in_box head (element_place t i j))
+    ∙ false_from_ne_true (is_in_box head (element_place t i j))
     (λ yes. none
     (record {
       row = i;
@@ -86,10 +73,10 @@ pub no_rows : (head : SourceHead) (t : Tile) → HasNoWindow head t → has_wind
 no_rows head t none = by (same_kind head.kind (kind_of t.family)) refl
   where
     by : (b : Bool) → same_kind head.kind (kind_of t.family) ≡ b → has_window head t ≡ false
-    by true e = last_false (same_kind head.kind (kind_of t.family)) _ (place_false head t (none (same_from _ _ e)))
-    by false e = first_false _ _ e
+    by true e = and_right (same_kind head.kind (kind_of t.family)) _ (place_false head t (none (same_from _ _ e)))
+    by false e = and_left _ _ e
 
 pub some_rows : (head : SourceHead) (t : Tile) (first count : ℕ) → IsWindow head t first count
     → has_window head t ≡ true
-some_rows head t first count w = both_true _ _ (same_true head.kind (kind_of t.family) w.kind)
+some_rows head t first count w = and_from _ _ (same_true head.kind (kind_of t.family) w.kind)
     (place_true head t w.first_looked.place)

@@ -1,5 +1,5 @@
 -- Publications that are drawn, one after another.
-use Rattle.std.proofs.Common.{◌≡◌, ℕ, zero, suc, ◌+◌, ◌*◌, ◌<◌, ℤ, pos, negsuc, ◌+ℤ◌, ◌≤ℤ◌, List, [], ◌∷◌, ◌++◌, length}
+use Rattle.std.proofs.Common.{◌≡◌, ℕ, suc, ◌+◌, ◌*◌, ◌<◌, ℤ, pos, negsuc, ◌+ℤ◌, ◌≤ℤ◌, List, [], ◌∷◌, ◌++◌, length}
 use Rattle.std.proofs.Common.{Ok, Err, refl, sym, ◌∙◌, ap, subst, arith}
 use Rattle.std.proofs.lemmas.Int.{ints}
 use Rattle.cdb_grid.specs.declared.tile.Tile.{Tile}
@@ -15,15 +15,11 @@ use Rattle.cdb_engine.specs.Tracks.{Origin, Leads}
 use Rattle.cdb_generate.specs.Generator.{passed, state_next, PublicationDrawn}
 use Rattle.cdb_generate.specs.Generated.{GeneratedSoFar}
 use Rattle.cdb_generate.specs.Sums.{tiles_sum, IsSum}
-use Rattle.cdb_generate.proofs.ListLaws.{in_order}
+use Rattle.cdb_generate.proofs.ListLaws.{in_order, passed_more as passed_suc}
 use Rattle.cdb_engine.specs.Filling.{IsDrawnFileCount, ComeAfter, AreMade, StopsAfter}
 use Rattle.cdb_engine.specs.Populating.{IsAtRest, IsDrawnNext, IsWholePublication, PublishesIn}
 use Rattle.cdb_engine.specs.declared.errors.PopulateError.{PopulateError}
 use Rattle.cdb_engine.specs.declared.drawn_publication.Published.{Published}
-
-passed_suc : (n x : ℕ) → passed (suc n) x ≡ state_next (passed n x)
-passed_suc zero x = refl
-passed_suc (suc n) x = passed_suc n (state_next x)
 
 pub passed_more : (n x : ℕ) → passed (n + 1) x ≡ state_next (passed n x)
 passed_more n x = let e : n + 1 ≡ suc n = omega arith in ap (λ (m : ℕ). passed m x) e ∙ passed_suc n x

@@ -9,9 +9,10 @@ use Rattle.cdb_source.specs.declared.source.Source.{Source}
 use Rattle.cdb_model.specs.KnownStore.{KnownState}
 use Rattle.cdb_model.specs.Publications.{Publication, sources_of, sources_up_to, heads_of}
 use Rattle.cdb_model.specs.Sessions.{session_of, without}
-use Rattle.cdb_model.specs.Stores.{Kind, Which, known, any, store_kind}
+use Rattle.cdb_model.specs.Stores.{Kind, Which, known, store_kind}
 use Rattle.cdb_model.specs.Transitions.{StateIn, OpenedIn, OpenLineIn, CloseLineIn}
 use Rattle.cdb_model.specs.declared.session.Session.{Session}
+use Rattle.cdb_model.proofs.ManySteps.{maybe}
 use Rattle.cdb_sessions.specs.declared.errors.Unknown.{Unknown}
 use Rattle.cdb_engine.specs.StoreAnswers.{session_answer, close_answer}
 use Rattle.cdb_engine.specs.Tracks.{Leads}
@@ -93,10 +94,6 @@ refused k s session_error.Memory New at led = record {
   now = subst New led.step.1 led.now;
 }
 
-maybe_after : (w : Which) (X Y : Type 0) → (X → Y) → (store_kind w).Maybe X → (store_kind w).Maybe Y
-maybe_after known X Y f never = never
-maybe_after any X Y f x = f x
-
 -- a tile couldn't be read
 pub unread : (w : Which) (s next : StateIn (store_kind w)) (id version : ℕ) (at : IsAtRest (store_kind w) s)
     (opened : OpenedIn (store_kind w) s id version next) (e : PopulateError) (New : StateIn (store_kind w) → Type 0)
@@ -105,9 +102,9 @@ unread w s next id version at opened Memory New never = absurd never
 unread w s next id version at opened Fault New now = after (store_kind w) s next id version at opened New now
 unread w s next id version at opened (Entries count) New never = never
 unread w s next id version at opened Versions New never = never
-unread w s next id version at opened (Damaged expected found) New maybe =
-    maybe_after w (New next) (LeadsAfter (store_kind w) s.list New) (after
-    (store_kind w) s next id version at opened New) maybe
+unread w s next id version at opened (Damaged expected found) New left =
+    maybe w (New next) (LeadsAfter (store_kind w) s.list New) (after
+    (store_kind w) s next id version at opened New) left
 
 -- the newest version has all sources
 pub all_sources : (list : List Publication) (version : ℕ) → version ≡ length list

@@ -1,8 +1,7 @@
 -- One publication that is drawn, from its draws to its sum.
-use Rattle.std.proofs.Common.{◌≡◌, ℕ, suc, ℤ, List, [], ◌∷◌, ◌++◌, length, get_or, Option, None, Some, Ok, Err, refl}
+use Rattle.std.proofs.Common.{◌≡◌, ℕ, suc, ℤ, List, [], ◌∷◌, ◌++◌, length, get_or, None, Some, Ok, Err, refl}
 use Rattle.std.proofs.Common.{sym, ◌∙◌, ap, subst}
 use Rattle.std.specs.Prelude.{All}
-use Rattle.std.specs.Option.{option_map}
 use Rattle.std.proofs.lemmas.Grind.{flat_map-append}
 use Rattle.std.proofs.lemmas.List.{append-nil}
 use Rattle.std.proofs.lemmas.List.Elements.{Contains-get_or}
@@ -27,10 +26,6 @@ use Rattle.cdb_engine.specs.inside.Populating.{IsGoingOf, BeginsDrawn, FinishesS
 use Rattle.cdb_engine.specs.declared.errors.PopulateError.{PopulateError}
 use Rattle.cdb_engine.specs.declared.errors.PopulateError.TheVariants.{Memory, Fault, Entries, Versions, Damaged}
 use Rattle.cdb_engine.specs.declared.drawn_publication.Published.{Published}
-
-pub none_mapped : (A B : Type 0) (f : A → B) (o : Option A) → option_map f o ≡ None → o ≡ None
-none_mapped A B f None e = refl
-none_mapped A B f (Some x) e = let n : Some (f x) ≡ None = e in absurd (cc)
 
 -- sources that were handed to an engine changed nothing but what is pending
 pub pending_only : (old new : Held) (w : Which) (s : StateIn (store_kind w)) → Shows old w s

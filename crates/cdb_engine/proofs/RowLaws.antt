@@ -1,14 +1,12 @@
 -- Rows that come one after another, and the posts that they become.
 use Rattle.std.proofs.Common.{◌≡◌, ℕ, zero, suc, ◌+◌, ◌<◌, ◌≤◌, inl, inr, ℤ, Bool, true, false, if◌then◌else◌, List}
 use Rattle.std.proofs.Common.{◌++◌, length, map, get_or, All, refl, sym, ◌∙◌, ap, subst, arith, add-one, slice_get}
-use Rattle.std.proofs.Common.{Some, EachIndex, Result, Ok, Err, OnErr}
-use Rattle.std.specs.List.{range_with_len}
+use Rattle.std.proofs.Common.{Some, EachIndex}
 use Rattle.std.specs.Ordering.{int_eq}
 use Rattle.std.proofs.Math.Nat.{eq-or-lt_of_le}
 use Rattle.std.proofs.lemmas.Bool.Decides.{Decides-int_eq}
 use Rattle.std.proofs.lemmas.List.{length-append, length-map, get_or-map, get_or_append_left, get_or-append-add}
-use Rattle.std.proofs.lemmas.List.{map-append, same_lists}
-use Rattle.std.proofs.lemmas.List.FromFn.{length-map-range_with_len, get_or-map-range_with_len}
+use Rattle.std.proofs.lemmas.List.{map-append}
 use Rattle.std.proofs.lemmas.Option.{get_or_from_slice_get}
 use Rattle.cdb_source.specs.declared.kind.Kind.{Kind}
 use Rattle.cdb_source.specs.declared.head.SourceHead.{SourceHead}
@@ -20,11 +18,7 @@ use Rattle.cdb_tiff_base.specs.Strips.{image_width}
 use Rattle.cdb_model.specs.Spelled.{row_of_pixels}
 use Rattle.cdb_model.specs.Text.{last_first}
 use Rattle.cdb_engine.specs.inside.Words.{HasRows}
-
--- what a failed call leaves, where the reason is known
-pub on_err : {T E : Type 0} (P : Type 0) (r : Result T E) → P → OnErr r P
-on_err P (Ok x) p = tt
-on_err P (Err e) p = p
+use Rattle.cdb_tiff_write.proofs.RasterLaws.{by_index}
 
 all_left : {A : Type 0} (P : A → Type 0) (xs ys : List A) → All P (xs ++ ys) → All P xs
 all_left P xs ys all k d h = subst P (get_or_append_left xs ys d k h) (all k d (rw length-append (omega arith)))
@@ -72,14 +66,6 @@ one_more_row head v row k old new r came same due posts is = record {
 }
 
 -- ---- the rows of an image
-
--- a list by the number at each index
-by_index : (f : ℕ → ℤ) (n : ℕ) (xs : List ℤ) → length xs ≡ n → ((k : ℕ) (d : ℤ) → k < n → get_or xs k d ≡ f k)
-    → xs ≡ map f (range_with_len 0 n)
-by_index f n xs len each =
-    same_lists xs (map f (range_with_len 0 n)) (len ∙ sym (length-map-range_with_len f 0 n))
-    (λ k d h. let below : k < n = omega (arith, len) in
-    each k d below ∙ sym (get_or-map-range_with_len f 0 n k k d below (omega arith)))
 
 -- a row of samples that were read
 pub row_read : (bytes : Bytes) (r : ℕ) (row : List ℤ) → length row ≡ image_width bytes

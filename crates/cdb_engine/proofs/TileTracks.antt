@@ -4,11 +4,10 @@ use Rattle.std.proofs.Common.{Option, None, Some, IsSome, Result, Ok, Err, refl,
 use Rattle.std.proofs.Common.{arith}
 use Rattle.std.specs.Prelude.{slice_get}
 use Rattle.std.specs.List.{AllByRecursion}
+use Rattle.std.proofs.lemmas.Option.{same_Some, slice_get_within}
 use Rattle.cdb_grid.specs.declared.tile.Tile.{Tile}
 use Rattle.cdb_source.specs.Reached.{Reached}
 use Rattle.cdb_source.specs.declared.source.Source.{Source}
-use Rattle.cdb_source.proofs.ReachLaws.{tile_same, tile_untouched, tile_unreached}
-use Rattle.cdb_model.specs.ByteLaws.{BytesByReaching}
 use Rattle.cdb_model.specs.KnownStore.{KnownState, Going}
 use Rattle.cdb_model.specs.Maps.{FileMap, size_of}
 use Rattle.cdb_model.specs.Names.{path}
@@ -22,14 +21,15 @@ use Rattle.cdb_model.specs.declared.session.Session.{Session}
 use Rattle.cdb_files.specs.Disk as disk
 use Rattle.cdb_files.specs.Disk.{IsImage}
 use Rattle.cdb_files.specs.Moments.{Rests}
-use Rattle.cdb_tiff_write.proofs.ByteLaws.{bytes_by_reaching}
 use Rattle.cdb_tiff_write.proofs.SizeLaws.{are_sized}
+use Rattle.cdb_tiff_write.specs.Rasters.{tile_size}
 use Rattle.cdb_chain.specs.Publications.{AreRecords, HasVersions}
-use Rattle.cdb_chain.specs.Versions.{Versions, IsFound, IsNewest}
-use Rattle.cdb_chain.proofs.Lists.{some_is, some_at, in_range, at_place, Split, split}
-use Rattle.cdb_chain.proofs.ReachedLaws.{meets_sources, names_files}
+use Rattle.cdb_chain.specs.Versions.{Versions, IsNewest}
+use Rattle.cdb_source.proofs.Lists.{some_at, at_place, Split, split}
+use Rattle.cdb_chain.proofs.ReachedLaws.{meets_sources, names_files, newest_of}
 use Rattle.cdb_publish.specs.declared.publication.Publication as publish
-use Rattle.cdb_sessions.specs.Cache.{Kept, IsMovedToFront, IsKept, IsDamaged, HasNone, file_length}
+use Rattle.cdb_publish.proofs.MidLaws.{bytes_law}
+use Rattle.cdb_sessions.specs.Cache.{Kept, IsMovedToFront, IsKept, IsDamaged, HasNone}
 use Rattle.cdb_sessions.specs.Sessions.{Sessions, LooksUp, TileOutcome, AreCurrent, ServesCurrent, pair_of, open_part}
 use Rattle.cdb_sessions.specs.declared.errors.TileError.{TileError}
 use Rattle.cdb_sessions.specs.declared.errors.TileError.TheVariants as tile_error
@@ -42,9 +42,6 @@ use Rattle.cdb_engine.specs.Stays.{bare_of, Stays}
 use Rattle.cdb_engine.specs.Tracks.{Works, IsFileOf, Tracks, Origin, Follows, Leads}
 use Rattle.cdb_engine.proofs.StayLaws.{both}
 use Rattle.cdb_engine.proofs.StepTracks.{all_map}
-
-bytes_law : BytesByReaching
-bytes_law = bytes_by_reaching (record { same = tile_same; untouched = tile_untouched; unreached = tile_unreached })
 
 -- ---- parts of lists
 
@@ -72,11 +69,6 @@ is_open_some : (o : Option Session) (x : Session) → o ≡ Some x → IsSome o
 is_open_some None x e = cc
 is_open_some (Some y) x e = refl
 
-newest_of : (chain : Versions) (version : ℕ) (t : Tile) (found : ℕ) → IsFound chain version t (Some found)
-    → IsNewest chain.records version t found
-unfolding IsFound
-newest_of chain version t found is = is
-
 -- each tile's file that is kept has the bytes that the disk has at its path
 file_current : (present : FileMap) (P : List Publication) → HasVersions present P → (k : Kept) → IsFileOf P k
     → present (path k.pair.version k.pair.tile) ≡ Some k.bytes
@@ -102,7 +94,7 @@ module _ (present : FileMap) (P : List Publication) (chain : Versions) (are : Ar
       let at : slice_get chain.records k ≡ Some item = at_place chain.records item newest.has.among in
       let number : item.version ≡ k + 1 = are.versions k item at in
       let within : k < length P = let c = are.count in
-      let l : k < length chain.records = in_range chain.records k item at in omega (arith, c, l) in
+      let l : k < length chain.records = slice_get_within chain.records k item at in omega (arith, c, l) in
       let x = some_at P k within in
       let cut : Split P k x.0 = split P k x.0 x.1 in
       let here : length cut.earlier ≡ k = cut.size in
@@ -119,7 +111,7 @@ module _ (present : FileMap) (P : List Publication) (chain : Versions) (are : Ar
         list_is = cut.is;
         version_is = version_is;
         reached = reached;
-        bytes_are = some_is bytes (tile_bytes (sources_of (cut.earlier ++ x.0 ∷ [])) t)
+        bytes_are = same_Some bytes (tile_bytes (sources_of (cut.earlier ++ x.0 ∷ [])) t)
             (sym there ∙ subst (λ n. present (path n t) ≡ Some (tile_bytes (sources_of (cut.earlier ++ x.0 ∷ [])) t))
             (sym version_is) real);
       }
@@ -167,7 +159,7 @@ module _ (present : FileMap) (P : List Publication) (chain : Versions) (are : Ar
     whole_file version expected found looks damaged =
         let real : present (path version t) ≡ Some (tile_bytes (sources_up_to looks.session.version P) t) =
         names_files bytes_law present chain P looks.session.version t version has are looks.looked in
-        let long : length (tile_bytes (sources_up_to looks.session.version P) t) ≡ file_length t =
+        let long : length (tile_bytes (sources_up_to looks.session.version P) t) ≡ tile_size t =
         are_sized.length_is (sources_up_to looks.session.version P) t in
         damaged.other (damaged.told told ∙ ap size_of real ∙ ap (λ n. Some n) (long ∙ sym damaged.form))
 
@@ -193,7 +185,7 @@ module _ (present : FileMap) (P : List Publication) (chain : Versions) (are : Ar
         let real : present (path r.0 t) ≡ Some (tile_bytes (sources_up_to version P) t) =
         names_files bytes_law present chain P version t r.0 has are looks.looked in
         let bytes : new.reply ≡ tile_bytes (sources_up_to version P) t =
-        some_is new.reply (tile_bytes (sources_up_to version P) t) (sym r.2 ∙ real) in (
+        same_Some new.reply (tile_bytes (sources_up_to version P) t) (sym r.2 ∙ real) in (
           record {
             session = looks.session;
             is_open = ap (session_of id) (sym sessions) ∙ looks.is_open;

@@ -1,14 +1,14 @@
 -- Laws of the states of a disk.
-use Rattle.std.proofs.Common.{◌≡◌, ◌≢◌, ℕ, ◌≤◌, ◌⊎◌, inl, inr, List, [], ◌∷◌, ◌++◌, length, take, None, Some, IsTrue, refl, sym, ap, ◌∙◌, subst, arith, append-nil}
+use Rattle.std.proofs.Common.{◌≡◌, ◌≢◌, ℕ, ◌≤◌, ◌⊎◌, inl, inr, List, [], ◌∷◌, ◌++◌, length, take, None, Some, refl, sym, ap, ◌∙◌, subst, arith, append-nil}
 use mathlib.Core.Path.{fun_ext}
 use Rattle.std.proofs.lemmas.Bool.{or_left, or_right}
-use Rattle.std.proofs.lemmas.List.{take_all}
 use Rattle.std.specs.Str.{bytes_eq}
 use Rattle.cdb_model.specs.Maps.{Text, Content, FileMap, IsThere, put, is_at_or_above, is_under}
 use Rattle.cdb_model.proofs.MapLaws.{put-same, put-other, put-put, bytes_eq-same}
 use Rattle.cdb_files.specs.Disk.{State, Possible, IsImage, Allows, IsMade, with_piece, settled, added, after_create, after_append, after_sync_file, after_remove, after_make_dir, Fails, FailsAppend, FailsMakeDir}
 use Rattle.cdb_files.specs.Moments.{IsBetween}
 use Rattle.cdb_files.specs.Whole.{after_fill, after_pieces, FailsFill, FailsWrite, ChangesOnly, IsImageBut}
+use Rattle.cdb_files.specs.Disk.{after_sync_dir}
 
 -- ---- what holds after a call
 pub made-make_dir : (folder : Text) (s : State) → IsMade (after_make_dir folder s) folder
@@ -183,3 +183,16 @@ pieces-fail path bytes piece s new (n, le, fails) = of fails.present
           (put-same s.present path (Some bytes))
           ∙ put-put s.present path (Some bytes) (Some (bytes ++ take n piece))),
     )
+
+-- Calls that change no file.
+pub make_dir-present : (folder : Text) (s : State) → (after_make_dir folder s).present ≡ s.present
+unfolding after_make_dir
+make_dir-present folder s = refl
+
+pub sync_file-present : (path : Text) (s : State) → (after_sync_file path s).present ≡ s.present
+unfolding after_sync_file
+sync_file-present path s = refl
+
+pub sync_dir-present : (folder : Text) (s : State) → (after_sync_dir folder s).present ≡ s.present
+unfolding after_sync_dir
+sync_dir-present folder s = refl

@@ -1,12 +1,10 @@
 -- Where no device fails, a run says what the machine's table says.
 use Rattle.std.proofs.Common.{◌≡◌, ℕ, ◌⊎◌, inl, inr, List, Option, refl, subst, arith}
 use Rattle.cdb_model.specs.AnswerTexts.{shelf_fault, disk_fault, tally}
-use Rattle.cdb_model.specs.Causes.{Rose}
 use Rattle.cdb_model.specs.KnownStore.{start_at}
 use Rattle.cdb_model.proofs.HaltLaws.{plain_answers}
 use Rattle.cdb_front.proofs.InTime.{in_time, quits}
 use Rattle.cdb_front.specs.Completeness.{RunsAreComplete}
-use Rattle.cdb_front.specs.Failures.{Still}
 use Rattle.cdb_front.specs.Headline.{Devices}
 use Rattle.cdb_front.specs.RunOutcome.{EndsWith, is_whole, is_part, IsOfStore}
 use Rattle.cdb_front.specs.RunProgress.{Holds}
@@ -14,9 +12,7 @@ use Rattle.cdb_front.specs.declared.exit_status.Status.{Status}
 use Rattle.cdb_front.specs.declared.exit_status.Status.TheVariants.{Done, Memory, Usage, InputFault, OutputFault}
 use Rattle.cdb_front.specs.declared.exit_status.Status.TheVariants.{StoreFault, NotAStore, TooLong, Differs, Refused}
 use Rattle.cdb_front.specs.declared.exit_status.Status.TheVariants.{Damaged}
-
-no_rise : (before now : ℕ) → Still before now → Rose before now → ⊥
-no_rise before now s rose = let e = s.0 in let l = s.1 in omega (arith, e, l, rose)
+use Rattle.cdb_front.proofs.Checking.{no_rise}
 
 -- a run over a store doesn't end as over none
 ends_of_store : (status : Status) (old new : Option (List ℕ)) (result : Status) → EndsWith status old new result

@@ -1,6 +1,6 @@
 -- Any number of runs, each over what a stop of the one before left, or on the very disk.
 use Rattle.std.proofs.Common.{◌≡◌, ℕ, ◌⊎◌, inl, inr, List, [], ◌∷◌, ◌++◌, Option, None, Some, Contains, refl, ap, sym}
-use Rattle.std.proofs.Common.{◌∙◌, subst, append_assoc, append-nil, arith}
+use Rattle.std.proofs.Common.{◌∙◌, subst, append_assoc, append-nil}
 use Rattle.std.specs.List.{AllByRecursion}
 use Rattle.std.proofs.lemmas.List.{append_cancel_left}
 use Rattle.std.proofs.lemmas.List.Elements.{Contains-append_left, Contains-append_right}
@@ -23,6 +23,7 @@ use Rattle.cdb_front.specs.Continued.{Succession, HasAcked, Carried, Continues}
 use Rattle.cdb_front.specs.Headline.{Devices, Life, Task, script, check, fill, Knows, ReadsScript, GoesBy, Goes, Meets}
 use Rattle.cdb_front.specs.Headline.{StopLeaves, amid, at_end, steps_behind, begun_in, acked_in, where_done}
 use Rattle.cdb_engine.specs.Filling.{StandsButLast, with_all, but_last}
+use Rattle.cdb_engine.proofs.StepTracks.{all_map}
 use Rattle.cdb_front.specs.Checking.{ChecksStore}
 use Rattle.cdb_front.specs.Generating.{FillsStore, StandsMade}
 use Rattle.cdb_front.specs.OverStore.{EndsOver, in_opening, behind_opening}
@@ -36,6 +37,7 @@ use Rattle.cdb_front.specs.declared.exit_status.Status.TheVariants.{Damaged}
 use Rattle.cdb_front.proofs.Exits.{IsAcknowledged, kept_first, take-none}
 use Rattle.cdb_front.proofs.Checking.{ends_as}
 use Rattle.cdb_front.proofs.Many.{only_whole, done_none}
+use Rattle.cdb_source.proofs.Lists.{not_in_none}
 
 -- ---- lists
 
@@ -59,15 +61,6 @@ each_of P [] list all one = absurd one
 each_of P (other ∷ others) list all (inl e) = subst P (sym e) all.0
 each_of P (other ∷ others) list all (inr one) = each_of P others list all.1 one
 
-all_map : (P Q : List Publication → Type 0) (lists : List (List Publication))
-    → ((list : List Publication) → P list → Q list)
-    → AllByRecursion P lists → AllByRecursion Q lists
-all_map P Q [] f all = tt
-all_map P Q (list ∷ lists) f all = (f list all.0, all_map P Q lists f all.1)
-
-not_in : (x : Publication) → Contains [] x → ⊥
-not_in x c = let few = c.1 in omega (arith, few)
-
 -- what is to be kept is in what a run may leave, and so is what was in each list that it might open
 holds_kept : (base : Base) (begun kept list : List Publication) (x : Publication) → MayLeave base begun kept list
     → Contains kept x
@@ -75,7 +68,8 @@ holds_kept : (base : Base) (begun kept list : List Publication) (x : Publication
 holds_kept base begun kept list x (inl e) c =
     subst (λ (l : List Publication). Contains l x) (sym e.list_is) (Contains-append_right base.list e.first x
     (subst (λ (l : List Publication). Contains l x) (sym e.holds) (Contains-append_left kept e.more x c)))
-holds_kept base begun kept list x (inr e) c = absurd (not_in x (subst (λ (l : List Publication). Contains l x) e.0 c))
+holds_kept base begun kept list x (inr e) c =
+    absurd (not_in_none x (subst (λ (l : List Publication). Contains l x) e.0 c))
 
 holds_before : (base : Base) (begun kept list : List Publication) (x : Publication) → MayLeave base begun kept list
     → AllByRecursion (λ l. Contains l x) (base.list ∷ base.early) → Contains list x

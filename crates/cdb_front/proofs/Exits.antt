@@ -28,6 +28,7 @@ use Rattle.cdb_front.specs.RunOutcome.{EndsFrom, LeavesNoEarly, StandsSinceOpeni
 use Rattle.cdb_front.specs.RunProgress.{Sight, RunStart, Holds, Runs, Told, base_of}
 use Rattle.cdb_front.specs.declared.exit_status.Status.{Status}
 use Rattle.cdb_front.specs.declared.exit_status.Status.TheVariants.{Done, Memory, Usage, InputFault, OutputFault, StoreFault, NotAStore, TooLong, Differs, Refused, Damaged}
+use Rattle.cdb_source.proofs.Lists.{not_some}
 
 -- ---- what is acknowledged
 
@@ -108,16 +109,11 @@ at_exit (Differs path) base begun kept m s = s
 at_exit (Refused limit) base begun kept m s = s
 at_exit (Damaged expected found) base begun kept m s = s
 
--- the disk that is left
-none_of : (going : Option Going) → ((now : Going) → going ≡ Some now → ⊥) → going ≡ None
-none_of None never = refl
-none_of (Some now) never = absurd (never now refl)
-
 at_rest : (s : KnownState) (d : disk.State) → IsLeftBy s d → IsLeftAtRest s d
 at_rest s d left = record {
   whole = left.whole;
   faulted = λ x e clear. record { clear = clear; either = left.either x e };
-  idle = λ x e. none_of s.going (λ now g. left.one now x g e);
+  idle = λ x e. not_some s.going (λ now g. left.one now x g e);
 }
 
 rests_at : (status : Status) (s : KnownState) (d : disk.State) → IsLeftAtRest s d → RestsAt status s d

@@ -12,6 +12,7 @@ use Rattle.cdb_crash.specs.Crash.{IsWhole}
 use Rattle.cdb_model.specs.Begun.{acknowledged}
 use Rattle.cdb_model.specs.Images.{StandsFrom, StandsKept, StandsForOne, StandsSince}
 use Rattle.cdb_engine.specs.Filling.{StandsButLast, with_all, but_last}
+use Rattle.cdb_engine.proofs.OpenStays.{from_none}
 use Rattle.cdb_front.specs.Checking.{ChecksStore}
 use Rattle.cdb_front.specs.Generating.{FillsStore, StandsMade}
 use Rattle.cdb_front.specs.OverStore.{EndsOver, in_opening, behind_opening}
@@ -53,14 +54,6 @@ since_early list moment begun m (inr e) = absurd e
 record Leaves (v : Devices) (life : Life v) (opened begun kept : List Publication) : Type 0 where
   pub since : (m : FileMap) → v.since life.new (v.clock life.old) m → StandsFrom opened begun m
   pub at_exit : (m : FileMap) → IsImage (v.state life.new) m → StandsKept opened begun kept m
-
-from_none : (list begun : List Publication) (m : FileMap) → Stands m list → StandsFrom list begun m
-from_none list begun m stands = record {
-  first = [];
-  later = begun;
-  joined = refl;
-  stands = subst (Stands m) (sym (append-nil list)) stands;
-}
 
 kept_none : (list begun kept : List Publication) (m : FileMap) → kept ≡ [] → StandsFrom list begun m
     → StandsKept list begun kept m

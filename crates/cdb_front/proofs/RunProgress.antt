@@ -16,12 +16,13 @@ use Rattle.cdb_model.specs.KnownStore.{KnownState, start_at}
 use Rattle.cdb_model.specs.Lines.{Cut, HasNoFeed, HaveNoFeed, HaveNoQuit}
 use Rattle.cdb_model.specs.Maps.{Content, FileMap}
 use Rattle.cdb_model.specs.Runs as run
-use Rattle.cdb_model.specs.Runs.{TurnIn, behind, Item, Run, RunIn, Passes, PassesIn, due, items_in, items_of}
+use Rattle.cdb_model.specs.Runs.{TurnIn, behind, Item, RunIn, Passes, PassesIn, due, items_in, items_of}
 use Rattle.cdb_model.specs.Stores.{Kind, Which, known, any, store_kind, known_store, any_store}
 use Rattle.cdb_model.specs.Text.{Text, ended}
 use Rattle.cdb_model.specs.Transitions.{StateIn, MakesIn}
 use Rattle.cdb_model.specs.declared.line.Line.{Line}
 use Rattle.cdb_model.specs.declared.line.Line.TheVariants as line
+use Rattle.cdb_model.proofs.BegunLaws.{tally-append}
 use Rattle.cdb_front.specs.AnswerMeanings.{meant, IsQuiet}
 use Rattle.cdb_front.specs.DamagedSizes.{AnswerFindsOther}
 use Rattle.cdb_front.specs.Devices.{WritesPart}
@@ -128,17 +129,12 @@ Runs-last Has (Some base) items item answers answer Now New runs on =
 texts_of-more : (answers now : List machine.Answer) → texts_of (answers ++ now) ≡ texts_of answers ++ texts_of now
 texts_of-more answers now = flat_map-append text_of_answer answers now
 
-tally-more : (kind : machine.Answer → ℕ) (answers now : List machine.Answer)
-    → tally kind (answers ++ now) ≡ tally kind answers + tally kind now
-tally-more kind [] now = omega arith
-tally-more kind (a ∷ answers) now = let rest = tally-more kind answers now in omega (arith, rest)
-
 Counts-more : (kind : machine.Answer → ℕ) (before since now : ℕ) (answers more : List machine.Answer)
     → Counts kind before since answers → Counts kind since now more → Counts kind before now (answers ++ more)
 Counts-more kind before since now answers more first second short =
     let later : since + tally kind more ≤ now = second short in
     let earlier : before + tally kind answers ≤ since = first (omega arith) in
-    let sum = tally-more kind answers more in
+    let sum = tally-append kind answers more in
     omega (arith, sum)
 
 all_more : (P : machine.Answer → Type 0) (answers more : List machine.Answer) → AllByRecursion P answers

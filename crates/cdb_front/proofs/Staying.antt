@@ -1,5 +1,6 @@
 -- What an engine and a state that it stays with tell the run.
-use Rattle.std.proofs.Common.{◌≡◌, ℕ, Option, None, Some, refl, ap, subst}
+use Rattle.std.proofs.Common.{◌≡◌, ℕ, Option, None, Some, refl, ap, subst, sym, ◌∙◌}
+use Rattle.std.proofs.lemmas.Option.{same_Some}
 use Rattle.cdb_model.specs.Commands as said
 use Rattle.cdb_model.specs.Events as machine
 use Rattle.cdb_model.specs.Events.{Event}
@@ -32,9 +33,6 @@ use Rattle.cdb_front.specs.Sourcing.{LoadsFrom}
 not_both : {A : Type 0} (o : Option A) (x : A) → o ≡ None → o ≡ Some x → ⊥
 not_both o x none some = cc
 
-same_one : {A : Type 0} (o : Option A) (x y : A) → o ≡ Some x → o ≡ Some y → x ≡ y
-same_one o x y one other = cc
-
 left_whole : (s : KnownState) (d : disk.State) → s.halted ≡ None → IsWhole Stands s.list d → IsLeftBy s d
 left_whole s d running whole = record {
   whole = λ e. whole;
@@ -47,7 +45,7 @@ left_either : (s : KnownState) (d : disk.State) (x : Publication) → s.going �
 left_either s d x idle halted either = record {
   whole = λ e. absurd (not_both s.halted x e halted);
   either = λ y e. subst (λ (z : Publication). (m : FileMap) → IsImage d m → IsEither Stands s.list z m)
-      (same_one s.halted x y halted e) either;
+      (same_Some x y (sym halted ∙ e)) either;
   one = λ now y e f. absurd (not_both s.going now idle e);
 }
 

@@ -24,6 +24,8 @@ use Rattle.cdb_publish.specs.declared.errors.Progress.{Progress}
 use Rattle.cdb_publish.specs.declared.errors.Progress.TheVariants as progress
 use Rattle.cdb_engine.specs.declared.errors.AdvanceError.{AdvanceError}
 use Rattle.cdb_engine.specs.declared.errors.AdvanceError.TheVariants as advance
+use Rattle.cdb_engine.proofs.NoStep.{some_there}
+use Rattle.cdb_engine.proofs.StepTracks.{not_there}
 
 -- some steps of many were made, and what remains to be made leads to what all of them lead to
 pub record Partway (k : Kind) (most left : ℕ) (s : StateIn k) (Now : StateIn k → Type 0) : Type 0 where
@@ -100,30 +102,21 @@ stepped_by k most left s Old New r said e p on = subst (Steps k most left s New)
 
 -- ---- lines that ask for steps
 
--- what is there, and what isn't
-there : {A : Type 0} (a : Option A) → true ≡ is_some a → IsSome a
-there None e = cc
-there (Some a) e = refl
-
-not_there : {A : Type 0} (a : Option A) → false ≡ is_some a → a ≡ None
-not_there None e = refl
-not_there (Some a) e = cc
-
 -- a line that asks for steps: refused since the writer is halted, since nothing is going, since none is asked for, or
 -- made
 pub hasten_halted : (k : Kind) (Now : StateIn k → Type 0) (s : StateIn k) (n : ℕ) → Now s → true ≡ is_some s.halted
     → Leads (StepLineIn k s n machine.halted) Now
-hasten_halted k Now s n now e = record { next = s; step = (there s.halted e, refl); now = now }
+hasten_halted k Now s n now e = record { next = s; step = (some_there s.halted e, refl); now = now }
 
 pub complete_halted : (k : Kind) (Now : StateIn k → Type 0) (s : StateIn k) → Now s → true ≡ is_some s.halted
     → Leads (StepAllLineIn k s machine.halted) Now
-complete_halted k Now s now e = record { next = s; step = (there s.halted e, refl); now = now }
+complete_halted k Now s now e = record { next = s; step = (some_there s.halted e, refl); now = now }
 
 idle : (k : Kind) (s : StateIn k) → false ≡ is_some s.halted → false ≡ is_some s.going → IsIdleIn k s
 idle k s a b = record { running = not_there s.halted a; idle = not_there s.going b }
 
 busy : (k : Kind) (s : StateIn k) → false ≡ is_some s.halted → true ≡ is_some s.going → IsBusyIn k s
-busy k s a b = record { running = not_there s.halted a; busy = there s.going b }
+busy k s a b = record { running = not_there s.halted a; busy = some_there s.going b }
 
 pub hasten_nothing : (k : Kind) (Now : StateIn k → Type 0) (s : StateIn k) (n : ℕ) → Now s → false ≡ is_some s.halted
     → false ≡ is_some s.going → Leads (StepLineIn k s n machine.nothing) Now

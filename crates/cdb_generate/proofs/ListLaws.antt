@@ -16,7 +16,7 @@ drawn_more : (x : ℕ) (made : List Publication) (p : Publication) → AreDrawn 
 drawn_more x [] p drawn one = (one, tt)
 drawn_more x (y ∷ ys) p drawn one = (drawn.0, drawn_more (state_next x) ys p drawn.1 one)
 
-passed_more : (n x : ℕ) → passed (suc n) x ≡ state_next (passed n x)
+pub passed_more : (n x : ℕ) → passed (suc n) x ≡ state_next (passed n x)
 passed_more zero x = refl
 passed_more (suc n) x = passed_more n (state_next x)
 

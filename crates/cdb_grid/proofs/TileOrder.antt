@@ -1,5 +1,5 @@
 -- Laws of the stated order of tiles.
-use Rattle.std.proofs.Common.{◌≡◌, ℕ, zero, suc, ◌<◌, ◌⊎◌, inl, inr, Bool, true, false, ◌&&◌, nat_eq, List, [], ◌∷◌, length, get_or, Option, Some, None, refl, sym, ap, ◌∙◌, subst, arith, rules}
+use Rattle.std.proofs.Common.{◌≡◌, ℕ, zero, suc, ◌<◌, ◌⊎◌, inl, inr, true, ◌&&◌, nat_eq, List, get_or, Some, refl, sym, ap, ◌∙◌, subst, arith, rules}
 use Rattle.std.specs.Prelude.{slice_get, AllPairs, ◌<ℤ◌}
 use Rattle.std.specs.Ordering.{ordering_reverse, ordering_then, is_eq, int_eq, nat_cmp, int_cmp, on, then_cmp}
 use Rattle.std.specs.Cmp.{int_cmp_is}
@@ -7,7 +7,8 @@ use Rattle.std.specs.declared.cmp.Ordering.{Ordering}
 use Rattle.std.specs.declared.cmp.Ordering.TheVariants.{Less, Equal, Greater}
 use Rattle.std.proofs.lemmas.Bool.Decides.{Decides-int_eq}
 use Rattle.std.proofs.lemmas.Int.{ints}
-use Rattle.std.proofs.lemmas.Option.{get_or_from_slice_get}
+use Rattle.std.proofs.lemmas.Option.{get_or_from_slice_get, same_Some, slice_get_within}
+use Rattle.std.proofs.lemmas.Bool.{and_parts}
 use borrow.Author.Tests.{eqb-true}
 use denote.Enum.Bare.{sameb, same_true}
 use Rattle.cdb_grid.specs.contracts.family.Family.{the_type}
@@ -30,21 +31,15 @@ self_equal Greater e = absurd cc
 pub tile_self : (t : Tile) → tile_cmp t t ≡ Equal
 tile_self t = self_equal (tile_cmp t t) (tile_cmp-total.antisymm t t)
 
--- both of two true tests
-pub both : (a b : Bool) → (a && b) ≡ true → (a ≡ true) × (b ≡ true)
-both true true e = (refl, refl)
-both true false e = (refl, e)
-both false b e = absurd (cc)
-
 -- tiles that are equal by their order are one
 pub same_by_order : (s t : Tile) → is_eq (tile_cmp s t) ≡ true → s ≡ t
 same_by_order s t h =
     let e = tile_ties s t ∙ h in
-    let a = both (sameb the_type s.family t.family) _ e in
-    let b = both (int_eq s.cell.lat t.cell.lat && int_eq s.cell.lon t.cell.lon) _ a.1 in
-    let p = both (int_eq s.cell.lat t.cell.lat) (int_eq s.cell.lon t.cell.lon) b.0 in
-    let l = both (int_eq s.level.number t.level.number) _ b.1 in
-    let u = both (nat_eq s.up t.up) (nat_eq s.right t.right) l.1 in
+    let a = and_parts (sameb the_type s.family t.family) _ e in
+    let b = and_parts (int_eq s.cell.lat t.cell.lat && int_eq s.cell.lon t.cell.lon) _ a.1 in
+    let p = and_parts (int_eq s.cell.lat t.cell.lat) (int_eq s.cell.lon t.cell.lon) b.0 in
+    let l = and_parts (int_eq s.level.number t.level.number) _ b.1 in
+    let u = and_parts (nat_eq s.up t.up) (nat_eq s.right t.right) l.1 in
     same_tile s t (same_true the_type (search rules) s.family t.family a.0)
     (same_geocell s.cell t.cell ((Decides-int_eq s.cell.lat t.cell.lat).0 p.0)
     ((Decides-int_eq s.cell.lon t.cell.lon).0 p.1))
@@ -75,21 +70,6 @@ order_of (suc i) (suc k) = up (order_of i k)
     up (inr (inl e)) = inr (inl (ap suc e))
     up (inr (inr l)) = inr (inr (omega (arith, l)))
 
-some_is : (y z : Tile) → Some y ≡ Some z → y ≡ z
-some_is y z e = ap value e
-  where
-    value : Option Tile → Tile
-    value None = y
-    value (Some w) = w
-
-none_some : (r : Tile) → None ≡ Some r → ⊥
-none_some r e = absurd cc
-
-within : (xs : List Tile) (k : ℕ) (r : Tile) → slice_get xs k ≡ Some r → k < length xs
-within [] k r e = absurd (none_some r e)
-within (z ∷ xs) zero r e = omega arith
-within (z ∷ xs) (suc k) r e = omega (arith, within xs k r e)
-
 -- a tile that comes before another one stands before it in an ascending list that has both
 pub precedes : (tiles : List Tile) (i k : ℕ) (s t : Tile) → AllPairs (λ a b. tile_cmp a b ≡ Less) tiles
     → slice_get tiles i ≡ Some s → slice_get tiles k ≡ Some t → tile_cmp s t ≡ Less → i < k
@@ -99,7 +79,7 @@ precedes tiles i k s t ordered at_i at_k less = of (order_of i k)
     of (inl l) = l
     of (inr (inl e)) =
         let G : ℕ → Type 0 = λ n. slice_get tiles n ≡ Some t in
-        let same : s ≡ t = some_is s t (sym at_i ∙ subst G (sym e) at_k) in
+        let same : s ≡ t = same_Some s t (sym at_i ∙ subst G (sym e) at_k) in
         let C : Tile → Type 0 = λ u. tile_cmp u t ≡ Less in
         absurd (not_both t t (subst C same less) (subst C same less))
     of (inr (inr l)) =
@@ -107,7 +87,7 @@ precedes tiles i k s t ordered at_i at_k less = of (order_of i k)
         let D : Tile → Type 0 = λ u. tile_cmp t u ≡ Less in
         absurd (not_both s t less
         (subst D (get_or_from_slice_get tiles i s s at_i)
-        (subst C (get_or_from_slice_get tiles k t s at_k) (ordered k i s l (within tiles i s at_i)))))
+        (subst C (get_or_from_slice_get tiles k t s at_k) (ordered k i s l (slice_get_within tiles i s at_i)))))
 
 -- ---- finer tiles come first, and families in their order
 

@@ -1,7 +1,6 @@
 -- Which field of the bytes of a record is the first bad one.
 use Rattle.std.proofs.Common.{◌≡◌, ℕ, ◌+◌, ◌*◌, ◌<◌, pos, negsuc, List, [], ◌∷◌, ◌++◌, length, take, drop, Result, Ok, Err, refl, sym, ap, subst, ◌∙◌, append_assoc, arith}
 use Rattle.std.specs.Prelude.{IfOk, IfErr}
-use Rattle.std.specs.Result.{IsErrAnd}
 use Rattle.std.proofs.Props.{props}
 use Rattle.std.proofs.lemmas.List.{length-append, append-nil}
 use Rattle.std.proofs.lemmas.Grind.{flat_map-append}
@@ -34,12 +33,6 @@ read_more bytes rest after tiles tile so_far here =
     let one : entries_text (tile ∷ []) ≡ entry_text tile = append-nil (entry_text tile) in
     so_far ∙ ap (λ (r : List ℕ). entries_text tiles ++ r) here
     ∙ sym (append_assoc (entries_text tiles) (entry_text tile) after) ∙ rw (whole, one) refl
-
--- an error that a `?` hands on
-pub handed_on : {T : Type 0} (r : Result T RecordError) (Says : RecordError → Type 0) (e : RecordError) → Says e
-    → IsErrAnd r (λ y. y ≡ e) → IfErr r Says
-handed_on (Ok x) Says e said h = tt
-handed_on (Err y) Says e said h = subst Says (sym h) said
 
 pub told_head : (bytes rest : List ℕ) (v s t : ℕ) → IsFront v s t → bytes ≡ record_front_text v s t ++ rest
     → (e : RecordError) → TellsHead rest s e → RecordCause bytes e
@@ -140,7 +133,7 @@ same_record a b ev eh et =
     let p2 : P b.version b.heads a.tiles = subst (λ hs. P b.version hs a.tiles) eh p1 in
     subst (λ ts. P b.version b.heads ts) et p2 b.in_range
 
-one_record : (a b : Record) → record_bytes a ≡ record_bytes b → a ≡ b
+pub one_record : (a b : Record) → record_bytes a ≡ record_bytes b → a ≡ b
 one_record a b e =
     let av = a.in_range.version_most in
     let bv = b.in_range.version_most in

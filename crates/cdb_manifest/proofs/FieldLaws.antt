@@ -1,9 +1,8 @@
 -- Heads at the front of bytes, and the order of tiles.
-use Rattle.std.proofs.Common.{◌≡◌, ℕ, zero, suc, ◌+◌, ◌-◌, ◌<◌, List, [], ◌∷◌, ◌++◌, length, take, get_or, refl, sym, ap, subst, ◌∙◌, arith, inl, inr}
+use Rattle.std.proofs.Common.{◌≡◌, ℕ, ◌+◌, ◌-◌, ◌<◌, List, [], ◌∷◌, ◌++◌, length, take, get_or, refl, sym, ap, subst, ◌∙◌, arith, inl, inr}
 use Rattle.std.proofs.lemmas.List.{take_at, length-append, get_or_append_left, get_or_push, get_or_default, length_push}
 use Rattle.std.proofs.lemmas.List.Quantifiers.{all_pairs_push}
 use Rattle.std.proofs.lemmas.Bool.{cases_lt}
-use Rattle.std.specs.Prelude.{false, ◌==◌}
 use Rattle.std.specs.declared.cmp.Ordering.TheVariants.{Less}
 use Rattle.cdb_grid.specs.Order.{tile_cmp}
 use Rattle.cdb_grid.specs.OrderLaws.{tile_cmp-total}
@@ -75,7 +74,3 @@ ascending_front xs ys asc i j d lt within =
     let second : get_or (xs ++ ys) j d ≡ get_or xs j d = get_or_append_left xs ys d j within in
     let step = subst (λ (a : Tile). tile_cmp a (get_or (xs ++ ys) j d) ≡ Less) first fact in
     subst (λ (b : Tile). tile_cmp (get_or xs i d) b ≡ Less) second step
-
-pub not_empty : (n : ℕ) → false ≡ (n == 0) → 0 < n
-not_empty zero e = absurd cc
-not_empty (suc n) e = omega arith

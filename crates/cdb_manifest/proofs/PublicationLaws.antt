@@ -7,7 +7,7 @@ use Rattle.cdb_model.specs.Publications.{heads_of}
 use Rattle.cdb_manifest.specs.Records.{PublicationsHaveRecords}
 use Rattle.cdb_manifest.proofs.DecodingLaws.{published}
 
-heads-length : (sources : List Source) → length (heads_of sources) ≡ length sources
+pub heads-length : (sources : List Source) → length (heads_of sources) ≡ length sources
 heads-length sources = length-map sources (λ (s : Source). s.head)
 
 pub publications : PublicationsHaveRecords

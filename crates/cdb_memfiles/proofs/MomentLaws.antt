@@ -1,11 +1,11 @@
 -- What one call more makes of a history: the states, and the images since each moment.
-use Rattle.std.proofs.Common.{◌≡◌, ℕ, ◌+◌, ◌<◌, ◌≤◌, ◌⊎◌, inl, inr, List, [], ◌∷◌, ◌++◌, length, take, Vec, Ok, Err, refl, sym, ap, ◌∙◌, subst, arith, length-append}
+use Rattle.std.proofs.Common.{◌≡◌, ℕ, ◌+◌, ◌<◌, ◌≤◌, ◌⊎◌, inl, inr, List, [], ◌∷◌, ◌++◌, length, take, Vec, Ok, Err, sym, ap, ◌∙◌, subst, arith, length-append}
 use Rattle.std.proofs.lemmas.Bool.{cases_lt, or_left}
 use Rattle.std.proofs.lemmas.List.{take-append-le, take_all}
 use Rattle.std.specs.declared.alloc.Global.{Global}
 use Rattle.arrayvec.specs.ArrayString.{ArrayString}
 use Rattle.cdb_model.specs.Maps.{Text, FileMap, is_at_or_above}
-use Rattle.cdb_files.specs.Disk.{State, IsImage, FailsMakeDir, after_make_dir, after_sync_file, after_sync_dir, after_append}
+use Rattle.cdb_files.specs.Disk.{State, IsImage, FailsMakeDir, after_make_dir, after_append}
 use Rattle.cdb_files.specs.Moments.{IsBetween, Elapses}
 use Rattle.cdb_memfiles.specs.declared.call.Call.{Call}
 use Rattle.cdb_memfiles.specs.declared.call.Call.TheVariants.{Append}
@@ -70,19 +70,6 @@ pub state_append : (calls later : List Call) (path : ArrayString) (piece : List 
     → later ≡ calls ++ Append path bytes ∷ [] → replay later ≡ after_append path.bytes piece (replay calls)
 state_append calls later path piece bytes same e = state_push calls later (Append path bytes) e
     ∙ ap (λ xs. after_append path.bytes xs (replay calls)) same
-
--- Calls that change no file.
-pub still-make_dir : (folder : Text) (s : State) → (after_make_dir folder s).present ≡ s.present
-unfolding after_make_dir
-still-make_dir folder s = refl
-
-pub still-sync_file : (path : Text) (s : State) → (after_sync_file path s).present ≡ s.present
-unfolding after_sync_file
-still-sync_file path s = refl
-
-pub still-sync_dir : (folder : Text) (s : State) → (after_sync_dir folder s).present ≡ s.present
-unfolding after_sync_dir
-still-sync_dir folder s = refl
 
 -- A failed making of folders that made none.
 pub fails_make_dir-same : (folder : Text) (old new : State) → new ≡ old

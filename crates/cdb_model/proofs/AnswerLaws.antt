@@ -6,6 +6,7 @@ use Rattle.std.proofs.lemmas.Option.{same_Some, none-some}
 use Rattle.cdb_grid.specs.declared.tile.Tile.{Tile}
 use Rattle.cdb_source.specs.Reached.{Reached}
 use Rattle.cdb_source.specs.declared.source.Source.{Source}
+use Rattle.cdb_source.proofs.LoadLaws.{one_load}
 use Rattle.cdb_tiff_base.specs.Causes.{cause_of}
 use Rattle.cdb_tiff_base.specs.Numbers.{Bytes}
 use Rattle.cdb_tiff_base.specs.declared.tiff_cause.TiffCause.{TiffCause}
@@ -25,7 +26,7 @@ use Rattle.cdb_model.specs.TileFile.{tile_bytes}
 use Rattle.cdb_model.specs.Transitions.{IsReadyIn, IsFullIn, GainsIn, LoadedIn, HasEntriesIn, IsFullOfVersionsIn, ServedIn, IsMissingIn}
 use Rattle.cdb_model.specs.declared.session.Session.{Session}
 use Rattle.cdb_model.proofs.ManySteps.{with_left, many_steps}
-use Rattle.cdb_model.proofs.OneLists.{one_touched, one_load, one_entries}
+use Rattle.cdb_model.proofs.OneLists.{one_touched, one_entries}
 use Rattle.cdb_model.proofs.OneSource.{IsSpelled, one_spelled, one_loaded}
 
 -- two answers are one, and so are the states after them

@@ -22,7 +22,7 @@ use Rattle.cdb_model.proofs.Changes.{IsQuiet, Changes, Moves, passes_moves}
 left : (old new : KnownState) → new ≡ old → begun_by new ≡ begun_by old ++ []
 left old new e = ap begun_by e ∙ sym (append-nil (begun_by old))
 
-quiet_begins : (s : KnownState) (answer : Answer) → IsQuiet s answer → begins s answer ≡ []
+pub quiet_begins : (s : KnownState) (answer : Answer) → IsQuiet s answer → begins s answer ≡ []
 quiet_begins s (machine.begun version files) q = absurd q
 quiet_begins s _ q = refl
 

@@ -14,7 +14,7 @@ use Rattle.cdb_model.specs.RunLaws.{HaltsByFault, HaltedBeginsNone, IsOfNoFailur
 use Rattle.cdb_model.specs.Runs.{behind}
 use Rattle.cdb_model.specs.Stores.{known_store}
 use Rattle.cdb_model.specs.Text.{Text}
-use Rattle.cdb_model.proofs.BegunLaws.{tally-append}
+use Rattle.cdb_model.proofs.BegunLaws.{tally-append, quiet_begins}
 use Rattle.cdb_model.proofs.Changes as changes
 use Rattle.cdb_model.proofs.Changes.{IsQuiet, Changes, Moves, passes_moves}
 
@@ -77,10 +77,6 @@ halts_by_fault Has old new (item ∷ items) answers r =
 -- nothing is begun, and neither the halt nor the list changes
 abbrev Rests : KnownState → List Publication → KnownState → Type 0
 Rests old begun new = (begun ≡ []) × (new.halted ≡ old.halted) × (new.list ≡ old.list)
-
-quiet_begins : (s : KnownState) (answer : Answer) → IsQuiet s answer → begins s answer ≡ []
-quiet_begins s (machine.begun version files) q = absurd q
-quiet_begins s _ q = refl
 
 made_rests : (count : ℕ) (old new : KnownState) (answer : Answer) → IsSome old.halted
     → AreMadeIn known_store count old answer new

@@ -84,7 +84,7 @@ stood k count old now new is running many (inl none) e =
 stood k count old now new is running many (inr none) e = absurd (none-some (fewer k now) (sym none))
 
 -- what a damaged file may do
-maybe : (w : Which) (X Y : Type 0) → (X → Y) → (store_kind w).Maybe X → (store_kind w).Maybe Y
+pub maybe : (w : Which) (X Y : Type 0) → (X → Y) → (store_kind w).Maybe X → (store_kind w).Maybe Y
 maybe known X Y f m = m
 maybe any X Y f m = f m
 

@@ -26,6 +26,9 @@ pub put-same : {A : Type 0} (m : Text → A) (p : Text) (v : A) → put m p v p 
 unfolding put
 put-same m p v = cond-true (bytes_eq p p) v (m p) (bytes_eq-same p)
 
+pub put-at : {A : Type 0} (m : Text → A) (p : Text) (v : A) (q : Text) → q ≡ p → put m p v q ≡ v
+put-at m p v q e = ap (λ t. put m p v t) e ∙ put-same m p v
+
 pub put-other : {A : Type 0} (m : Text → A) (p : Text) (v : A) (q : Text) → q ≢ p → put m p v q ≡ m q
 unfolding put
 put-other m p v q ne = cond-false (bytes_eq p q) v (m q) (bytes_eq-other p q ne)

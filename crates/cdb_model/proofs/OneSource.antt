@@ -39,7 +39,7 @@ one_number : (d u v w : ℤ) → pos 0 <ℤ d → u *ℤ d ≡ w → v *ℤ d �
 one_number (pos m) u v w h eu ev = same_multiple u v m (omega (arith, ints)) (eu ∙ sym ev)
 one_number (negsuc m) u v w h eu ev = absurd (omega (arith, ints))
 
-one_units : (n d u v : ℤ) → IsFraction n d u → IsFraction n d v → u ≡ v
+pub one_units : (n d u v : ℤ) → IsFraction n d u → IsFraction n d v → u ≡ v
 one_units n d u v fu fv = one_number d u v _ fu.positive fu.value fv.value
 
 -- ---- one source

@@ -3,9 +3,11 @@ use Rattle.std.proofs.Common.{◌≡◌, ℕ, ◌+◌, ◌-◌, ◌*◌, ◌<◌
 use Rattle.std.specs.Prelude.{◌/◌, ◌%◌}
 use Rattle.std.specs.Char.{is_ascii_digit}
 use Rattle.std.proofs.lemmas.Bool.Decides.{nat_tests}
+use Rattle.std.proofs.lemmas.Option.{cond_some}
+use Rattle.std.proofs.lemmas.Bool.{and_parts}
 use Rattle.cdb_model.specs.Names.{Text, two, three}
 use Rattle.cdb_names.specs.Fields.{two_of, two_at, three_at}
-use Rattle.cdb_names.proofs.Tools.{both, some_if, then_some, map_some, pair_is}
+use Rattle.cdb_names.proofs.Tools.{then_some, map_some, pair_is}
 
 pub digit_range : (c : ℕ) → is_ascii_digit c ≡ true → (48 ≤ c) × (c ≤ 57)
 digit_range c e = grind (arith, nat_tests)
@@ -18,8 +20,8 @@ cells a b c d e f = cc
 
 pub two_takes : (a b n : ℕ) → two_of a b ≡ Some n → (two n ≡ a ∷ b ∷ []) × (n < 100)
 two_takes a b n e =
-    let g = some_if (is_ascii_digit a && is_ascii_digit b) ((a - 48) * 10 + (b - 48)) n e in
-    let t = both (is_ascii_digit a) (is_ascii_digit b) g.0 in
+    let g = cond_some (is_ascii_digit a && is_ascii_digit b) ((a - 48) * 10 + (b - 48)) n e in
+    let t = and_parts (is_ascii_digit a) (is_ascii_digit b) g.0 in
     let p = digit_range a t.0 in
     let q = digit_range b t.1 in
     let is : (a - 48) * 10 + (b - 48) ≡ n = g.1 in
@@ -51,7 +53,7 @@ three_at_takes [] n rest e = absurd cc
 three_at_takes (a ∷ text) n rest e =
     let m = then_some (two_at text) (λ n. cond (is_ascii_digit a) (Some ((a - 48) * 100 + n.0, n.1)) None) (n, rest)
     e in
-    let g = some_if (is_ascii_digit a) ((a - 48) * 100 + m.0.0, m.0.1) (n, rest) m.2 in
+    let g = cond_some (is_ascii_digit a) ((a - 48) * 100 + m.0.0, m.0.1) (n, rest) m.2 in
     let p = pair_is ((a - 48) * 100 + m.0.0) n m.0.1 rest g.1 in
     let t = two_at_takes text m.0.0 m.0.1 m.1 in
     let d = digit_range a g.0 in

@@ -3,14 +3,15 @@ use Rattle.std.proofs.Common.{◌≡◌, ℕ, zero, suc, ◌+◌, ◌-◌, ◌<�
 use Rattle.std.specs.Prelude.{option_and_then, nat_eq, nat_lt, nat_le, ◌==◌, neg_ℤ, codes, ◌/◌}
 use Rattle.std.specs.Fmt.{decimal}
 use Rattle.std.specs.List.{starts_with}
-use Rattle.std.proofs.lemmas.Bool.{eqb-true, ltb-true, leb-true, lt-ltb, le-leb, eq-eqb, ne_eqb}
+use Rattle.std.proofs.lemmas.Bool.{eqb-true, ltb-true, leb-true, lt-ltb, le-leb, eq-eqb, ne_eqb, and_parts}
 use Rattle.std.proofs.lemmas.Int.{ints}
+use Rattle.std.proofs.lemmas.Option.{cond_some, same_Some}
 use Rattle.cdb_grid.specs.Units.{width_at, row_of, column_of}
 use Rattle.cdb_grid.specs.declared.family.Family.{Family}
 use Rattle.cdb_grid.specs.declared.family.Family.TheVariants.{Elev, Low, High, Mat}
 use Rattle.cdb_model.specs.Names.{Text, two, three, lat_text, lon_text, dataset_text, level_text, begins_with_digit}
 use Rattle.cdb_names.specs.Fields.{after, two_at, three_at, lat_of, lat_at, lon_of, is_on_grid, lon_at, family_of, family_at, coarse_of, fine_of, coarse_at, fine_at, level_at, bounded_number_at, numbered_at}
-use Rattle.cdb_names.proofs.Tools.{both, some_if, chosen, then_some, map_some, some_is, pair_is}
+use Rattle.cdb_names.proofs.Tools.{chosen, then_some, map_some, pair_is}
 use Rattle.cdb_names.proofs.DigitLaws.{two_again, two_at_takes, three_at_takes, three_at_again}
 use Rattle.cdb_names.proofs.NumberLaws.{number_takes, number_again}
 
@@ -26,11 +27,11 @@ pub starts_takes : (prefix text : Text) → starts_with nat_eq text prefix ≡ t
 starts_takes [] text e = refl
 starts_takes (p ∷ prefix) [] e = absurd cc
 starts_takes (p ∷ prefix) (c ∷ text) e =
-    let t = both (nat_eq p c) (starts_with nat_eq text prefix) e in
+    let t = and_parts (nat_eq p c) (starts_with nat_eq text prefix) e in
     let same : p ≡ c = eqb-true p c t.0 in
     rw same (ap (λ (r : Text). c ∷ r) (starts_takes prefix text t.1))
 
-starts_again : (prefix rest : Text) → starts_with nat_eq (prefix ++ rest) prefix ≡ true
+pub starts_again : (prefix rest : Text) → starts_with nat_eq (prefix ++ rest) prefix ≡ true
 starts_again [] rest = refl
 starts_again (p ∷ prefix) rest = let e : nat_eq p p ≡ true = eq-eqb p p refl in rw e (starts_again prefix rest)
 
@@ -40,7 +41,7 @@ drop_again (p ∷ prefix) rest = drop_again prefix rest
 
 pub after_takes : (prefix text rest : Text) → after prefix text ≡ Some rest → text ≡ prefix ++ rest
 after_takes prefix text rest e =
-    let g = some_if (starts_with nat_eq text prefix) (drop (length prefix) text) rest e in
+    let g = cond_some (starts_with nat_eq text prefix) (drop (length prefix) text) rest e in
     starts_takes prefix text g.0 ∙ ap (λ (r : Text). prefix ++ r) g.1
 
 pub after_again : (prefix rest : Text) → after prefix (prefix ++ rest) ≡ Some rest
@@ -57,15 +58,15 @@ lat_value letter n l e =
     elim (chosen ((letter == 78) && nat_lt n 90) (Some (pos n))
     (cond ((letter == 83) && (nat_lt 0 n && nat_le n 90)) (Some (neg_ℤ (pos n))) None) (Some l) e) [
       | inl h ↦
-          let t = both (letter == 78) (nat_lt n 90) h.0 in
+          let t = and_parts (letter == 78) (nat_lt n 90) h.0 in
           let c : letter ≡ 78 = eqb-true letter 78 t.0 in
           let lt : n < 90 = ltb-true n 90 t.1 in
-          subst (λ (z : ℤ). IsLat z × (lat_text z ≡ letter ∷ two n)) (some_is (pos n) l h.1)
+          subst (λ (z : ℤ). IsLat z × (lat_text z ≡ letter ∷ two n)) (same_Some (pos n) l h.1)
           ((omega (arith, ints), omega (arith, ints)), rw c refl)
       | inr h ↦
-          let g = some_if ((letter == 83) && (nat_lt 0 n && nat_le n 90)) (neg_ℤ (pos n)) l h.1 in
-          let t = both (letter == 83) (nat_lt 0 n && nat_le n 90) g.0 in
-          let u = both (nat_lt 0 n) (nat_le n 90) t.1 in
+          let g = cond_some ((letter == 83) && (nat_lt 0 n && nat_le n 90)) (neg_ℤ (pos n)) l h.1 in
+          let t = and_parts (letter == 83) (nat_lt 0 n && nat_le n 90) g.0 in
+          let u = and_parts (nat_lt 0 n) (nat_le n 90) t.1 in
           let c : letter ≡ 83 = eqb-true letter 83 t.0 in
           let lt : 0 < n = ltb-true 0 n u.0 in
           let le : n ≤ 90 = leb-true n 90 u.1 in
@@ -81,7 +82,7 @@ lat_takes [] l rest e = absurd cc
 lat_takes (letter ∷ text) l rest e =
     let b = then_some (two_at text) _ (l, rest) e in
     let c = then_some (lat_of letter b.0.0) _ (l, rest) b.2 in
-    let p = pair_is c.0 l b.0.1 rest (some_is _ _ c.2) in
+    let p = pair_is c.0 l b.0.1 rest (same_Some _ _ c.2) in
     let v = lat_value letter b.0.0 c.0 c.1 in
     let t = two_at_takes text b.0.0 b.0.1 b.1 in
     let whole : letter ∷ text ≡ lat_text c.0 ++ b.0.1 = ap (λ (r : Text). letter ∷ r) t.0
@@ -120,15 +121,15 @@ lon_value letter n l e =
     elim (chosen ((letter == 69) && nat_lt n 180) (Some (pos n))
     (cond ((letter == 87) && (nat_lt 0 n && nat_le n 180)) (Some (neg_ℤ (pos n))) None) (Some l) e) [
       | inl h ↦
-          let t = both (letter == 69) (nat_lt n 180) h.0 in
+          let t = and_parts (letter == 69) (nat_lt n 180) h.0 in
           let c : letter ≡ 69 = eqb-true letter 69 t.0 in
           let lt : n < 180 = ltb-true n 180 t.1 in
-          subst (λ (z : ℤ). InGlobe z × (lon_text z ≡ letter ∷ three n)) (some_is (pos n) l h.1)
+          subst (λ (z : ℤ). InGlobe z × (lon_text z ≡ letter ∷ three n)) (same_Some (pos n) l h.1)
           ((omega (arith, ints), omega (arith, ints)), rw c refl)
       | inr h ↦
-          let g = some_if ((letter == 87) && (nat_lt 0 n && nat_le n 180)) (neg_ℤ (pos n)) l h.1 in
-          let t = both (letter == 87) (nat_lt 0 n && nat_le n 180) g.0 in
-          let u = both (nat_lt 0 n) (nat_le n 180) t.1 in
+          let g = cond_some ((letter == 87) && (nat_lt 0 n && nat_le n 180)) (neg_ℤ (pos n)) l h.1 in
+          let t = and_parts (letter == 87) (nat_lt 0 n && nat_le n 180) g.0 in
+          let u = and_parts (nat_lt 0 n) (nat_le n 180) t.1 in
           let c : letter ≡ 87 = eqb-true letter 87 t.0 in
           let lt : 0 < n = ltb-true 0 n u.0 in
           let le : n ≤ 180 = leb-true n 180 u.1 in
@@ -144,7 +145,7 @@ lon_takes lat [] l rest e = absurd cc
 lon_takes lat (letter ∷ text) l rest e =
     let b = then_some (three_at text) _ (l, rest) e in
     let c = then_some (lon_of letter b.0.0) _ (l, rest) b.2 in
-    let g = some_if (is_on_grid lat c.0) (c.0, b.0.1) (l, rest) c.2 in
+    let g = cond_some (is_on_grid lat c.0) (c.0, b.0.1) (l, rest) c.2 in
     let p = pair_is c.0 l b.0.1 rest g.1 in
     let grid : column_of c.0 % width_at (row_of lat) ≡ 0 = eqb-true (column_of c.0 % width_at (row_of lat)) 0 g.0 in
     let v = lon_value letter b.0.0 c.0 c.1 in
@@ -179,7 +180,7 @@ lon_again lat (negsuc n) rest h =
 
 -- ---- dataset
 
-dataset_len : (f : Family) → length (dataset_text f) ≡ 15
+pub dataset_len : (f : Family) → length (dataset_text f) ≡ 15
 dataset_len Elev = refl
 dataset_len Low = refl
 dataset_len High = refl
@@ -197,7 +198,7 @@ family_value text f e = by (starts_with nat_eq text (codes "_D001_S001_T001"))
   where
     found : (g : Family) → starts_with nat_eq text (dataset_text g) ≡ true → Some g ≡ Some f
         → text ≡ dataset_text f ++ drop 15 text
-    found g s i = subst (λ (h : Family). text ≡ dataset_text h ++ drop 15 text) (some_is g f i)
+    found g s i = subst (λ (h : Family). text ≡ dataset_text h ++ drop 15 text) (same_Some g f i)
         (starts_with_dataset g text s)
 
     by : (a b c d : Bool) → starts_with nat_eq text (codes "_D001_S001_T001") ≡ a
@@ -239,10 +240,10 @@ coarse_takes text l rest e =
     let a = then_some (after (codes "_LC") text) _ (l, rest) e in
     let b = then_some (two_at a.0) _ (l, rest) a.2 in
     let c = then_some (coarse_of b.0.0) _ (l, rest) b.2 in
-    let p = pair_is c.0 l b.0.1 rest (some_is _ _ c.2) in
+    let p = pair_is c.0 l b.0.1 rest (same_Some _ _ c.2) in
     let n = b.0.0 in
-    let g = some_if (nat_lt 0 b.0.0 && nat_le b.0.0 10) (neg_ℤ (pos b.0.0)) c.0 c.1 in
-    let u = both (nat_lt 0 b.0.0) (nat_le b.0.0 10) g.0 in
+    let g = cond_some (nat_lt 0 b.0.0 && nat_le b.0.0 10) (neg_ℤ (pos b.0.0)) c.0 c.1 in
+    let u = and_parts (nat_lt 0 b.0.0) (nat_le b.0.0 10) g.0 in
     let lt : 0 < b.0.0 = ltb-true 0 b.0.0 u.0 in
     let le : b.0.0 ≤ 10 = leb-true b.0.0 10 u.1 in
     let is : negsuc (b.0.0 - 1) ≡ l = sym (below_zero b.0.0 lt) ∙ g.1 ∙ p.0 in
@@ -263,8 +264,8 @@ fine_takes text l rest e =
     let a = then_some (after (codes "_L") text) _ (l, rest) e in
     let b = then_some (two_at a.0) _ (l, rest) a.2 in
     let c = then_some (fine_of b.0.0) _ (l, rest) b.2 in
-    let p = pair_is c.0 l b.0.1 rest (some_is _ _ c.2) in
-    let g = some_if (nat_lt b.0.0 24) (pos b.0.0) c.0 c.1 in
+    let p = pair_is c.0 l b.0.1 rest (same_Some _ _ c.2) in
+    let g = cond_some (nat_lt b.0.0 24) (pos b.0.0) c.0 c.1 in
     let lt : b.0.0 < 24 = ltb-true b.0.0 24 g.0 in
     let is : pos b.0.0 ≡ l = g.1 ∙ p.0 in
     let t = two_at_takes a.0 b.0.0 b.0.1 b.1 in

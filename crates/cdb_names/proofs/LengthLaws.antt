@@ -1,16 +1,16 @@
 -- How long names and paths are.
-use Rattle.std.proofs.Common.{◌≡◌, ℕ, ◌+◌, ◌<◌, ◌≤◌, ◌^◌, [], ◌∷◌, ◌++◌, length, refl, ap, arith, length-append, ℤ, pos, negsuc}
+use Rattle.std.proofs.Common.{◌≡◌, ℕ, ◌+◌, ◌<◌, ◌≤◌, ◌^◌, [], ◌∷◌, ◌++◌, length, refl, arith, length-append, ℤ, pos, negsuc}
 use Rattle.std.specs.Prelude.{codes}
 use Rattle.std.specs.Fmt.{decimal}
 use Rattle.std.proofs.lemmas.Fmt.{length-decimal-le}
 use Rattle.cdb_grid.specs.declared.family.Family.{Family}
 use Rattle.cdb_grid.specs.declared.family.Family.TheVariants.{Elev, Low, High, Mat}
-use Rattle.cdb_grid.specs.declared.tile.Tile.{Tile}
-use Rattle.cdb_model.specs.Names.{Text, VersionTile, lat_text, lon_text, dataset_text, level_text, version_folder, dataset_folder, level_folder, name, path}
+use Rattle.cdb_model.specs.Names.{Text, lat_text, lon_text, dataset_text, level_text, version_folder, dataset_folder, level_folder, name}
 use Rattle.cdb_names.specs.Fields.{across}
 use Rattle.cdb_names.specs.Lengths.{NamesAreShort, PathsAreShort}
 use Rattle.cdb_names.proofs.FolderLaws.{across_coarse}
 use Rattle.cdb_names.proofs.NumberLaws.{up_small, right_small}
+use Rattle.cdb_names.proofs.FieldLaws.{dataset_len}
 
 lat_len : (z : ℤ) → length (lat_text z) ≡ 3
 lat_len (pos n) = refl
@@ -19,12 +19,6 @@ lat_len (negsuc n) = refl
 lon_len : (z : ℤ) → length (lon_text z) ≡ 4
 lon_len (pos n) = refl
 lon_len (negsuc n) = refl
-
-dataset_len : (f : Family) → length (dataset_text f) ≡ 15
-dataset_len Elev = refl
-dataset_len Low = refl
-dataset_len High = refl
-dataset_len Mat = refl
 
 dataset_folder_len : (f : Family) → length (dataset_folder f) ≤ 19
 dataset_folder_len Elev = omega arith
@@ -37,7 +31,7 @@ level_folder_len (pos n) = omega arith
 level_folder_len (negsuc n) = omega arith
 
 -- a number of at most seven digits
-seven : (n : ℕ) → n < 10 ^ 7 → length (decimal n) ≤ 7
+pub seven : (n : ℕ) → n < 10 ^ 7 → length (decimal n) ≤ 7
 seven n small = length-decimal-le 7 n (omega arith) small (omega arith)
 
 -- below level 0 there is one tile, so its row has one digit

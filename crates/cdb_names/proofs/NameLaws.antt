@@ -2,9 +2,10 @@
 use Rattle.std.proofs.Common.{◌≡◌, ℕ, suc, ◌-◌, ◌<◌, ◌≤◌, ◌^◌, Bool, true, false, cond, not, List, [], ◌∷◌, ◌++◌, length, take, drop, Option, Some, None, Result, Ok, Err, ◌⊎◌, inl, inr, refl, ap, sym, subst, ◌∙◌, arith, ℤ}
 use Rattle.std.specs.Prelude.{codes}
 use Rattle.std.specs.Str.{bytes_eq}
-use Rattle.std.proofs.lemmas.Bool.{eqb-true}
+use Rattle.std.proofs.lemmas.Bool.{eqb-true, not-true}
 use Rattle.std.proofs.lemmas.Slice.Eq.{bytes_eq-Decides}
 use Rattle.std.proofs.Math.Nat.{pow-le-pow_right}
+use Rattle.std.proofs.lemmas.Option.{cond_some, same_Some}
 use Rattle.cdb_grid.specs.Units.{height_of}
 use Rattle.cdb_grid.specs.declared.family.Family.{Family}
 use Rattle.cdb_grid.specs.declared.tile.Tile.{Tile}
@@ -13,7 +14,7 @@ use Rattle.cdb_model.specs.Names.{Text, lat_text, lon_text, dataset_text, level_
 use Rattle.cdb_names.specs.declared.folder.Folder.{Folder}
 use Rattle.cdb_names.specs.Fields.{lat_at, lon_at, family_at, level_at, across, numbered_at}
 use Rattle.cdb_names.specs.Reading.{◌>>=◌, wrong_at, field_or_place, has_lat, has_lon, has_dataset, has_level, has_up, passing, lat_in, lon_in, family_in, level_in, up_in, name_at, Spelled, spelled_tile}
-use Rattle.cdb_names.proofs.Tools.{some_if, some_is, pair_is, not_true, chosen}
+use Rattle.cdb_names.proofs.Tools.{pair_is, chosen}
 use Rattle.cdb_names.proofs.FieldLaws.{IsLon, IsLevel, lat_takes, lat_again, lon_takes, lon_again, family_takes, family_again, level_takes, level_again, numbered_takes, numbered_again}
 use Rattle.cdb_names.proofs.Settled.{Settles}
 use Rattle.cdb_names.proofs.FolderLaws.{InFolder, IsSound, some_tile, with_lat, with_lon, with_family, with_level, with_up, with_right}
@@ -24,7 +25,7 @@ pub kept_takes : {X : Type 0} (test : X → Bool) (o : Option (X × Text)) (x : 
     ≡ Some (x, rest) → (o ≡ Some (x, rest)) × (test x ≡ true)
 kept_takes test None x rest e = absurd cc
 kept_takes {X} test (Some p) x rest e =
-    let g = some_if (test p.0) p (x, rest) e in
+    let g = cond_some (test p.0) p (x, rest) e in
     (ap Some g.1, ap (λ (q : X × Text). test q.0) (sym g.1) ∙ g.0)
 
 pub kept_again : {X : Type 0} (test : X → Bool) (o : Option (X × Text)) (x : X) (rest : Text) → o ≡ Some (x, rest)
@@ -36,7 +37,7 @@ pub same : {A : Type 0} (read : Text → Option (A × Text)) (text spelled_tile 
     → read text ≡ Some (a, r) → spelled_tile ≡ text → read spelled_tile ≡ Some (b, rest) → (b ≡ a) × (rest ≡ r)
 same {A} read text spelled_tile a b r rest e is f =
     let p : Some (b, rest) ≡ Some (a, r) = sym f ∙ ap read is ∙ e in
-    pair_is b a rest r (some_is (b, rest) (a, r) p)
+    pair_is b a rest r (same_Some (b, rest) (a, r) p)
 
 pub none_some : {A : Type 0} (read : Text → Option (A × Text)) (text spelled_tile : Text) (b : A) (rest : Text)
     → read text ≡ None → spelled_tile ≡ text → read spelled_tile ≡ Some (b, rest) → ⊥
@@ -56,7 +57,7 @@ across_small l h =
     let a : 2 ^ (24 - height_of l) ≤ 2 ^ 24 = pow-le-pow_right {n = 2} some bound in
     omega (arith, a)
 
-level_of : (t : Tile) → IsLevel t.level.number
+pub level_of : (t : Tile) → IsLevel t.level.number
 level_of t = (t.level.coarsest, t.level.finest)
 
 -- ---- the stages of reading
@@ -283,7 +284,7 @@ module _ (folder : Option Folder) (sound : IsSound folder) (text : Text) where
         a.0,
         a.1,
         subst (λ z. up_in folder (across z) (up_text x.tile.up ++ after) ≡ Some (x.tile.up, after))
-            a.0.3 (up_reads x after (not_true (begins_with_digit after) b.follows)),
+            a.0.3 (up_reads x after (not-true (begins_with_digit after) b.follows)),
       )
 
   stop5 : (lat lon : ℤ) (family : Family) (level : ℤ) (rest : Text)
@@ -327,7 +328,7 @@ module _ (folder : Option Folder) (sound : IsSound folder) (text : Text) where
         a.0,
         a.1,
         subst (λ z. numbered_at (codes "_R") (across z) (right_text x.tile.right ++ after)
-            ≡ Some (x.tile.right, after)) a.0.3 (right_reads x after (not_true (begins_with_digit after) b.follows)),
+            ≡ Some (x.tile.right, after)) a.0.3 (right_reads x after (not-true (begins_with_digit after) b.follows)),
       )
 
   stop6 : (lat lon : ℤ) (family : Family) (level : ℤ) (up : ℕ) (rest : Text)

@@ -1,24 +1,25 @@
 -- Numbers of all digits that follow, without a leading zero.
-use Rattle.std.proofs.Common.{◌≡◌, ℕ, zero, suc, ◌+◌, ◌-◌, ◌*◌, ◌<◌, ◌≤◌, ◌^◌, Bool, true, false, cond, ◌&&◌, not, [], ◌∷◌, ◌++◌, length, take, drop, Some, ◌%◌, refl, ap, sym, subst, ◌∙◌, arith, length-append}
+use Rattle.std.proofs.Common.{◌≡◌, ℕ, zero, suc, ◌+◌, ◌-◌, ◌<◌, ◌≤◌, ◌^◌, Bool, true, false, cond, ◌&&◌, not, [], ◌∷◌, ◌++◌, length, take, drop, Some, refl, ap, sym, subst, ◌∙◌, arith, length-append}
 use Rattle.std.specs.Prelude.{nat_lt, ◌==◌, ◌||◌, slice_index}
 use Rattle.std.specs.Char.{is_ascii_digit}
 use Rattle.std.specs.Fmt.{decimal}
 use Rattle.std.specs.Str.{all_ascii_digits}
 use Rattle.std.specs.Str.Parse.{digits_value}
-use Rattle.std.proofs.lemmas.Bool.{ltb-true, lt-ltb}
+use Rattle.std.proofs.lemmas.Bool.{ltb-true, lt-ltb, and_parts}
 use Rattle.std.proofs.lemmas.Bool.Decides.{nat_tests}
 use Rattle.std.proofs.lemmas.Fmt.{decimal_digit, decimal_nonempty, first_decimal, digits_decimal, digits_value-decimal, decimal-digits_value, length-decimal-le}
 use Rattle.std.proofs.lemmas.Int.{ints}
 use Rattle.std.proofs.Math.Nat.{pow-le-pow_right}
-use lib.IntN.{ℤ, pos, negsuc, nat_abs}
+use lib.IntN.{ℤ, pos, negsuc}
 use lib.Signed.{◌≤ℤ◌}
 use Rattle.std.proofs.lemmas.List.{take-append-drop, take_at, drop_at}
 use Rattle.std.proofs.lemmas.Str.Parse.{IsNumeralModel, numerals_by_value, tells_all_ascii_digits}
+use Rattle.std.proofs.lemmas.Option.{cond_some}
 use Rattle.cdb_grid.specs.Units.{height_of}
 use Rattle.cdb_grid.specs.declared.tile.Tile.{Tile}
 use Rattle.cdb_model.specs.Names.{Text, begins_with_digit}
 use Rattle.cdb_names.specs.Fields.{digits_len, bounded_number, bounded_number_at}
-use Rattle.cdb_names.proofs.Tools.{both, some_if, map_some, pair_is}
+use Rattle.cdb_names.proofs.Tools.{map_some, pair_is}
 
 pub own : IsNumeralModel (λ ds. all_ascii_digits ds ≡ true) (digits_value 10)
 own = numerals_by_value (λ ds. all_ascii_digits ds ≡ true) tells_all_ascii_digits
@@ -47,13 +48,13 @@ all_front (c ∷ text) = by (all_front text) (is_ascii_digit c) refl
 pub number_value : (limit : ℕ) (ds : Text) (n : ℕ) → all_ascii_digits ds ≡ true → limit ≤ 2 ^ 32
     → bounded_number limit ds ≡ Some n → (ds ≡ decimal n) × (n < limit)
 number_value limit ds n digits small e =
-    let g = some_if
+    let g = cond_some
     (nat_lt 0 (length ds)
     && (((length ds == 1) || not (slice_index ds 0 == 48)) && nat_lt (digits_value 10 ds) limit))
     (digits_value 10 ds) n e in
-    let t = both (nat_lt 0 (length ds))
+    let t = and_parts (nat_lt 0 (length ds))
     (((length ds == 1) || not (slice_index ds 0 == 48)) && nat_lt (digits_value 10 ds) limit) g.0 in
-    let u = both ((length ds == 1) || not (slice_index ds 0 == 48)) (nat_lt (digits_value 10 ds) limit) t.1 in
+    let u = and_parts ((length ds == 1) || not (slice_index ds 0 == 48)) (nat_lt (digits_value 10 ds) limit) t.1 in
     let some : 0 < length ds = ltb-true 0 (length ds) t.0 in
     let lt : digits_value 10 ds < limit = ltb-true (digits_value 10 ds) limit u.1 in
     let d : decimal (digits_value 10 ds) ≡ ds = decimal-digits_value own ds digits some
@@ -98,7 +99,7 @@ pub digits_len-append : (ds rest : Text) → all_ascii_digits ds ≡ true → be
 digits_len-append [] [] h e = refl
 digits_len-append [] (c ∷ rest) h e = rw e refl
 digits_len-append (d ∷ ds) rest h e =
-    let t = both (is_ascii_digit d) (all_ascii_digits ds) h in
+    let t = and_parts (is_ascii_digit d) (all_ascii_digits ds) h in
     rw t.0 (omega (arith, digits_len-append ds rest t.1 e))
 
 number_again_value : (limit n : ℕ) → n < limit → limit ≤ 2 ^ 32 → bounded_number limit (decimal n) ≡ Some n

@@ -3,8 +3,9 @@ use Rattle.std.proofs.Common.{◌≡◌, ℕ, ◌+◌, ◌*◌, ◌<◌, ◌≤�
 use Rattle.std.specs.Prelude.{nat_eq, nat_lt, nat_le, codes, ◌/◌, ◌%◌}
 use Rattle.std.specs.Fmt.{decimal}
 use Rattle.std.specs.List.{starts_with}
-use Rattle.std.proofs.lemmas.Bool.{ltb-true, leb-true, lt-ltb, le-leb, ne_eqb}
+use Rattle.std.proofs.lemmas.Bool.{ltb-true, leb-true, lt-ltb, le-leb, ne_eqb, and_parts}
 use Rattle.std.proofs.lemmas.Int.{ints}
+use Rattle.std.proofs.lemmas.Option.{cond_some, same_Some}
 use Rattle.cdb_grid.specs.declared.family.Family.{Family}
 use Rattle.cdb_grid.specs.declared.family.Family.TheVariants.{Elev, Low, High, Mat}
 use Rattle.cdb_model.specs.Names.{Text, two, four, lat_text, lon_text, version_folder, dataset_folder, level_folder}
@@ -13,7 +14,7 @@ use Rattle.cdb_names.specs.declared.folder.DatasetFolder.TheVariants.{Elevation,
 use Rattle.cdb_names.specs.Fields.{after, two_at, fine_of, lat_at, lon_at, numbered_at}
 use Rattle.cdb_names.specs.inside.Fields.{four_at, version_of, version_at, fine_folder_at, slashed, version_folder_at, lat_folder_at, lon_folder_at, dataset_folder_at, level_folder_at, up_folder_at}
 use Rattle.cdb_names.specs.Reading.{dataset_folder_of, level_folder_of}
-use Rattle.cdb_names.proofs.Tools.{both, some_if, chosen, then_some, map_some, some_is, pair_is}
+use Rattle.cdb_names.proofs.Tools.{chosen, then_some, map_some, pair_is}
 use Rattle.cdb_names.proofs.DigitLaws.{two_again, two_at_takes}
 use Rattle.cdb_names.proofs.FieldLaws.{IsLat, IsLon, IsLevel, starts_takes, after_takes, lat_takes, lat_again, lon_takes, lon_again, numbered_takes, numbered_again}
 use Rattle.cdb_names.proofs.FolderLaws.{some_family, some_level}
@@ -46,7 +47,7 @@ unfolding four_at
 four_takes text n rest e =
     let a = then_some (two_at text) _ (n, rest) e in
     let b = then_some (two_at a.0.1) _ (n, rest) a.2 in
-    let p = pair_is (a.0.0 * 100 + b.0.0) n b.0.1 rest (some_is _ _ b.2) in
+    let p = pair_is (a.0.0 * 100 + b.0.0) n b.0.1 rest (same_Some _ _ b.2) in
     let s = two_at_takes text a.0.0 a.0.1 a.1 in
     let t = two_at_takes a.0.1 b.0.0 b.0.1 b.1 in
     let small : a.0.0 < 100 = s.1 in
@@ -75,10 +76,10 @@ version_takes text v rest e =
     let b = then_some (four_at a.0) _ (v, rest) a.2 in
     let c = then_some (four_at b.0.1) _ (v, rest) b.2 in
     let d = then_some (version_of b.0.0 c.0.0) _ (v, rest) c.2 in
-    let p = pair_is d.0 v c.0.1 rest (some_is _ _ d.2) in
-    let g = some_if (nat_lt 0 (b.0.0 * 10000 + c.0.0) && nat_le (b.0.0 * 10000 + c.0.0) 4096)
+    let p = pair_is d.0 v c.0.1 rest (same_Some _ _ d.2) in
+    let g = cond_some (nat_lt 0 (b.0.0 * 10000 + c.0.0) && nat_le (b.0.0 * 10000 + c.0.0) 4096)
     (b.0.0 * 10000 + c.0.0) d.0 d.1 in
-    let u = both (nat_lt 0 (b.0.0 * 10000 + c.0.0)) (nat_le (b.0.0 * 10000 + c.0.0) 4096) g.0 in
+    let u = and_parts (nat_lt 0 (b.0.0 * 10000 + c.0.0)) (nat_le (b.0.0 * 10000 + c.0.0) 4096) g.0 in
     let some : 0 < b.0.0 * 10000 + c.0.0 = ltb-true 0 (b.0.0 * 10000 + c.0.0) u.0 in
     let most : b.0.0 * 10000 + c.0.0 ≤ 4096 = leb-true (b.0.0 * 10000 + c.0.0) 4096 u.1 in
     let s = four_takes a.0 b.0.0 b.0.1 b.1 in
@@ -174,7 +175,7 @@ dataset_folder_takes text d rest e = part ∙ ap (λ (f : Text). f ++ rest) (spe
         → ◌≡◌ {A = Option (DatasetFolder × Text)} (Some (k, drop n text)) (Some (d, rest))
         → text ≡ dataset_part d ++ rest
     found k n len s i =
-        let p = pair_is k d (drop n text) rest (some_is _ _ i) in
+        let p = pair_is k d (drop n text) rest (same_Some _ _ i) in
         let t = starts_takes (dataset_part k) text s in
         t ∙ ap (λ (m : ℕ). dataset_part k ++ drop m text) (sym len) ∙ ap (λ (r : Text). dataset_part k ++ r) p.1
         ∙ ap (λ (f : DatasetFolder). dataset_part f ++ rest) p.0
@@ -217,8 +218,8 @@ fine_folder_takes text l rest e =
     let a = then_some (after (codes "L") text) _ (l, rest) e in
     let b = then_some (two_at a.0) _ (l, rest) a.2 in
     let c = then_some (fine_of b.0.0) _ (l, rest) b.2 in
-    let p = pair_is c.0 l b.0.1 rest (some_is _ _ c.2) in
-    let g = some_if (nat_lt b.0.0 24) (pos b.0.0) c.0 c.1 in
+    let p = pair_is c.0 l b.0.1 rest (same_Some _ _ c.2) in
+    let g = cond_some (nat_lt b.0.0 24) (pos b.0.0) c.0 c.1 in
     let lt : b.0.0 < 24 = ltb-true b.0.0 24 g.0 in
     let is : pos b.0.0 ≡ l = g.1 ∙ p.0 in
     let t = two_at_takes a.0 b.0.0 b.0.1 b.1 in
@@ -239,7 +240,7 @@ level_folder_takes text l rest e =
     elim (chosen (starts_with nat_eq text (codes "LC/")) (Some (negsuc 0, drop 3 text)) (slashed (fine_folder_at text))
     (Some (l, rest)) e) [
       | inl h ↦
-          let p = pair_is (negsuc 0) l (drop 3 text) rest (some_is _ _ h.1) in
+          let p = pair_is (negsuc 0) l (drop 3 text) rest (same_Some _ _ h.1) in
           let t : text ≡ codes "LC/" ++ drop 3 text = starts_takes (codes "LC/") text h.0 in
           let spelled : text ≡ (level_folder (negsuc 0) ++ 47 ∷ []) ++ rest = t
           ∙ ap (λ (r : Text). codes "LC/" ++ r) p.1 in

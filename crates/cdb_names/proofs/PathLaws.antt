@@ -2,17 +2,17 @@
 use Rattle.std.proofs.Common.{◌≡◌, ℕ, suc, ◌<◌, ◌≤◌, ◌^◌, [], ◌∷◌, ◌++◌, take, Some, None, refl, ap, sym, subst, ◌∙◌, arith, ℤ, pos, negsuc}
 use Rattle.std.specs.Prelude.{codes}
 use Rattle.std.specs.Fmt.{decimal}
+use Rattle.std.proofs.lemmas.Option.{same_Some}
 use Rattle.cdb_grid.specs.declared.tile.Tile.{Tile}
 use Rattle.cdb_model.specs.Names.{Text, VersionTile, lat_text, lon_text, version_folder, dataset_folder, level_folder, path_fields, spell, BeginsWith}
 use Rattle.cdb_names.specs.declared.folder.DatasetFolder.{DatasetFolder}
 use Rattle.cdb_names.specs.Fields.{after, across}
 use Rattle.cdb_names.specs.inside.Fields.{version_folder_at, lat_folder_at, lon_folder_at, dataset_folder_at, level_folder_at, up_folder_at}
 use Rattle.cdb_names.specs.Reading.{dataset_folder_of}
-use Rattle.cdb_names.proofs.Tools.{some_is}
-use Rattle.cdb_names.proofs.FieldLaws.{IsLon, IsLevel, after_takes, after_again}
+use Rattle.cdb_names.proofs.FieldLaws.{IsLon, after_takes, after_again}
 use Rattle.cdb_names.proofs.FolderLaws.{some_tile, some_family, with_lat, with_lon, with_family, with_level, with_up, across_coarse}
 use Rattle.cdb_names.proofs.Settled.{Settles}
-use Rattle.cdb_names.proofs.NameLaws.{same, none_some, across_small}
+use Rattle.cdb_names.proofs.NameLaws.{same, none_some, across_small, level_of}
 use Rattle.cdb_names.proofs.NameResults.{anywhere}
 use Rattle.cdb_names.proofs.PathFieldLaws.{version_folder_takes, version_folder_again, lat_folder_takes, lat_folder_again, lon_folder_takes, lon_folder_again, dataset_folder_takes, dataset_folder_again, level_for_folder, level_folder_takes, level_folder_again, up_folder_takes, up_folder_again}
 
@@ -68,9 +68,6 @@ Shares7 version lat lon dataset level up v = (v.version ≡ version) × (v.tile.
 pub across_same : (l : ℤ) → across (level_for_folder l) ≡ across l
 across_same (pos n) = refl
 across_same (negsuc n) = across_coarse 0 ∙ sym (across_coarse n)
-
-level_of : (t : Tile) → IsLevel t.level.number
-level_of t = (t.level.coarsest, t.level.finest)
 
 -- the fields of a path, read again
 pub version_reads : (x : VersionTile) (after : Text)
@@ -153,7 +150,7 @@ module _ (text : Text) where
             let a = s.only x (codes "Tiles/" ++ end) (record { parts = b.parts; follows = refl }) in
             let again : Some end ≡ Some rest = sym (after_again (codes "Tiles/") end)
             ∙ ap (after (codes "Tiles/")) a.1 ∙ e in
-            (a.0, some_is end rest again);
+            (a.0, same_Some end rest again);
       }
 
   -- latitude

@@ -4,10 +4,10 @@ use Rattle.std.specs.Prelude.{◌/◌, ◌%◌}
 use Rattle.cdb_model.specs.Names.{Text, version_folder, head_path, new_head_path, IsUnder}
 
 -- two digits tell their number
-two_tell : (m n : ℕ) → 48 + m / 10 ≡ 48 + n / 10 → 48 + m % 10 ≡ 48 + n % 10 → m ≡ n
+pub two_tell : (m n : ℕ) → 48 + m / 10 ≡ 48 + n / 10 → 48 + m % 10 ≡ 48 + n % 10 → m ≡ n
 two_tell m n high low = omega arith
 
-by_hundreds : (m n : ℕ) → m / 100 ≡ n / 100 → m % 100 ≡ n % 100 → m ≡ n
+pub by_hundreds : (m n : ℕ) → m / 100 ≡ n / 100 → m % 100 ≡ n % 100 → m ≡ n
 by_hundreds m n high low = omega arith
 
 by_myriads : (m n : ℕ) → m / 10000 ≡ n / 10000 → m % 10000 ≡ n % 10000 → m ≡ n

@@ -7,10 +7,7 @@ use Rattle.cdb_grid.specs.Units.{width_at, row_of, column_of, tiles_of, height_o
 use Rattle.cdb_grid.specs.declared.family.Family.{Family}
 use Rattle.cdb_grid.specs.declared.family.Family.TheVariants.{Elev, Low, High, Mat}
 use Rattle.cdb_model.specs.Names.{Text}
-
-infixl 10 ◌>>=◌
-abbrev pub ◌>>=◌ : {A B : Type 0} → Option A → (A → Option B) → Option B
-o >>= f = option_and_then f o
+use Rattle.cdb_model.specs.Words.{◌>>=◌}
 
 -- what follows a prefix
 abbrev pub after : Text → Text → Option Text

@@ -3,7 +3,7 @@ use Rattle.std.proofs.Common.{◌≡◌, ℕ, zero, suc, ◌+◌, ◌-◌, ◌<�
 use Rattle.std.proofs.lemmas.Grind.{flat_map-append}
 use Rattle.std.proofs.lemmas.List.{length-map}
 use Rattle.std.proofs.lemmas.List.Elements.{All-append}
-use Rattle.std.proofs.lemmas.Option.{get_or_from_slice_get}
+use Rattle.std.proofs.lemmas.Option.{get_or_from_slice_get, same_Some, slice_get_within}
 use Rattle.cdb_grid.specs.Grid.{Place}
 use Rattle.cdb_grid.specs.Tiles.{IsInTile, place_in}
 use Rattle.cdb_grid.specs.declared.family.Family.{Family}
@@ -25,6 +25,7 @@ use Rattle.cdb_crash.specs.Plan.{IsMidAfter}
 use Rattle.cdb_crash.specs.StepLaws.{AreTouched}
 use Rattle.cdb_crash.proofs.PlanLaws.{plan_keeps}
 use Rattle.cdb_source.proofs.ReachLaws.{tile_same, tile_untouched, tile_unreached}
+use Rattle.cdb_source.proofs.Lists.{at_contains}
 use Rattle.cdb_tiff_write.proofs.ByteLaws.{bytes_by_reaching}
 use Rattle.std.proofs.Common.{take}
 use Rattle.cdb_manifest.specs.declared.record_.Record.{Record}
@@ -42,18 +43,15 @@ use Rattle.cdb_cut.proofs.FinerTiles.{parents}
 use Rattle.cdb_cut.proofs.FrameStarts.{extreme_kind}
 use Rattle.cdb_grid.proofs.TileOrder.{precedes, child_before, elevation_first}
 use Rattle.cdb_chain.proofs.LookLaws.{Answer, found_answers, listed_contains, contains_listed}
-use Rattle.cdb_crash.proofs.NewestFiles.{some_is, newest_before, same_after, none_before, none_reach, newest_own, in_range}
-use Rattle.cdb_crash.proofs.PlanNumbers.{got, get-map, source_at}
-
-place_of : {A : Type 0} (xs : List A) (x : A) → Contains xs x → (k : ℕ) × (slice_get xs k ≡ Some x)
-place_of xs x c = (c.0, got xs c.0 x c.1 (sym c.2))
+use Rattle.cdb_crash.proofs.NewestFiles.{newest_before, same_after, none_before, none_reach, newest_own}
+use Rattle.cdb_crash.proofs.PlanNumbers.{get-map, source_at}
 
 -- ---- the tiles of records
 
 mapped : {A B : Type 0} (f : A → B) (xs : List A) (k : ℕ) (y : B) → slice_get (map f xs) k ≡ Some y
     → (x : A) × (slice_get xs k ≡ Some x) × (f x ≡ y)
 mapped f [] k y e = absurd cc
-mapped f (x ∷ xs) zero y e = (x, refl, some_is (f x) y e)
+mapped f (x ∷ xs) zero y e = (x, refl, same_Some (f x) y e)
 mapped f (x ∷ xs) (suc k) y e = mapped f xs k y e
 
 abbrev tiles_in : List Record → List (List Tile)
@@ -86,7 +84,7 @@ module _ (bytes : BytesByReaching) (p : Plan) (kept : List Record) (P : List (Li
   unlisted : (t : Tile) → Answer kept (length P) t None → (j : ℕ) (q : Record) → slice_get kept j ≡ Some q
       → Contains q.tiles t → ⊥
   unlisted t none j q at has =
-      let l : j < length kept = in_range kept j q at in
+      let l : j < length kept = slice_get_within kept j q at in
       let version : q.version ≡ j + 1 = are.versions j q at in
       none q.version (omega (arith, l, version, are.count))
       (record { item = q; among = (j, l, get_or_from_slice_get kept j q q at); version_is = refl; listed = has })
@@ -98,7 +96,7 @@ module _ (bytes : BytesByReaching) (p : Plan) (kept : List Record) (P : List (Li
       unlisted t none j m.0 m.1 (subst C (sym m.2) has))
   named_before_by t (Some v) newest =
       let item : Record = newest.has.item in
-      let k = place_of kept item newest.has.among in
+      let k = at_contains kept item newest.has.among in
       let version : v ≡ k.0 + 1 = sym newest.has.version_is ∙ are.versions k.0 item k.1 in
       ap (λ n. s.present (path n t)) version
       ∙ newest_before bytes s.present (tiles_in kept) P t k.0 item.tiles stands (listed_tiles kept P are)
@@ -106,7 +104,7 @@ module _ (bytes : BytesByReaching) (p : Plan) (kept : List Record) (P : List (Li
       let m = mapped (λ (r : Record). r.tiles) kept j tiles at in
       let q : Record = m.0 in
       let C : List Tile → Type 0 = λ ts. Contains ts t in
-      let l : j < length kept = in_range kept j q m.1 in
+      let l : j < length kept = slice_get_within kept j q m.1 in
       let q_version : q.version ≡ j + 1 = are.versions j q m.1 in
       let le : q.version ≤ v = newest.greatest q.version (omega (arith, l, q_version, are.count)) (record {
         item = q;
@@ -140,7 +138,7 @@ module _ (bytes : BytesByReaching) (p : Plan) (kept : List Record) (P : List (Li
     where
       by : (b : Bool) → is_listed p.record.tiles t ≡ b
           → IsNamed s.present (sources_of P ++ x) t (if b then Some p.record.version else look_before p kept t)
-      by true e = let k = place_of p.record.tiles t (listed_contains p.record.tiles t e) in
+      by true e = let k = at_contains p.record.tiles t (listed_contains p.record.tiles t e) in
           own_there t k.0 k.1 (earlier k.0 k.1)
       by false e = untouched_too t (look_before p kept t)
           (λ reached. true≢false (sym (contains_listed p.record.tiles t ((plans.touched.exact t).1 reached)) ∙ e))
@@ -151,7 +149,7 @@ module _ (bytes : BytesByReaching) (p : Plan) (kept : List Record) (P : List (Li
       ap (λ n. s.present (source_path n (k + 1))) plans.version
       ∙ keeps.there k (length x + number) s
       (record { path = source_path (length P + 1) (k + 1); bytes = source_text r }) mid
-      (source_at P x p.record.tiles k r at) (omega (arith, in_range x k r at))
+      (source_at P x p.record.tiles k r at) (omega (arith, slice_get_within x k r at))
 
 -- ---- elevations of the same cells
 
@@ -201,10 +199,10 @@ mid_has_files bytes p kept P x number s t children plans are here mid at those =
       let reached : Reached (heads_of x) t =
       (plans.touched.exact t).0 (
         number,
-        in_range p.record.tiles number t at,
+        slice_get_within p.record.tiles number t at,
         get_or_from_slice_get p.record.tiles number t t at,
       ) in
-      let e = place_of p.record.tiles (elevation_tile t)
+      let e = at_contains p.record.tiles (elevation_tile t)
       ((plans.touched.exact (elevation_tile t)).1 (elevation_reached (heads_of x) t extreme reached)) in
       own_there bytes p kept P x number s plans are here mid (elevation_tile t) e.0 e.1
       (precedes p.record.tiles e.0 number (elevation_tile t) t plans.touched.ordered e.1 at

@@ -13,6 +13,7 @@ use Rattle.cdb_model.specs.Maps.{folder_above}
 use Rattle.cdb_model.specs.Names.{path, source_path}
 use Rattle.cdb_model.specs.Stands.{IsPublication, IsEntryCount, ArePublications}
 use Rattle.cdb_crash.specs.Plan.{File, source_files, tile_file, files_of, folders_of, each_once}
+use Rattle.cdb_crash.proofs.PlanLaws.{tile_files-paths}
 use Rattle.cdb_publish.specs.Entries.{entries_in}
 use Rattle.cdb_chain.specs.Publications.{AreRecords}
 use Rattle.cdb_publish.specs.Planning.{IsAccepted}
@@ -23,12 +24,6 @@ source_folders : (v from : ℕ) (x : List Source) → map (λ (file : File). fol
 source_folders v from [] = refl
 source_folders v from (s ∷ x) = ap (λ t. folder_above (source_path v from) ∷ t) (source_folders v (from + 1) x)
 
-tile_folders : (v : ℕ) (all : List Source) (tiles : List Tile)
-    → map (λ (file : File). folder_above file.path) (map (tile_file v all) tiles)
-    ≡ map folder_above (map (path v) tiles)
-tile_folders v all [] = refl
-tile_folders v all (t ∷ tiles) = ap (λ r. folder_above (path v t) ∷ r) (tile_folders v all tiles)
-
 pub folders_are : (P : List (List Source)) (x : List Source) (tiles : List Tile)
     → each_once (map folder_above (paths_in (length P + 1) (length x) tiles)) ≡ folders_of (files_of P x tiles)
 folders_are P x tiles =
@@ -37,11 +32,11 @@ folders_are P x tiles =
     ap each_once
     (map-append folder_above (source_paths_from (length P + 1) 1 (length x)) (map (path (length P + 1)) tiles)
     ∙ (λ i. sym (source_folders (length P + 1) 1 x) i
-    ++ sym (tile_folders (length P + 1) (sources_of (P ++ x ∷ [])) tiles) i)
+    ++ sym (tile_files-paths (length P + 1) (sources_of (P ++ x ∷ [])) tiles) i)
     ∙ sym (map-append (λ (file : File). folder_above file.path) (source_files (length P + 1) 1 x)
     (map (tile_file (length P + 1) (sources_of (P ++ x ∷ []))) tiles)))
 
-entry_count : (kept : List Record) (P : List (List Source)) → length kept ≡ length P
+pub entry_count : (kept : List Record) (P : List (List Source)) → length kept ≡ length P
     → ((k : ℕ) (r : Record) (x : List Source) → slice_get kept k ≡ Some r → slice_get P k ≡ Some x
     → IsTouched (heads_of x) r.tiles) → IsEntryCount P (entries_in kept)
 entry_count [] [] same tiles = refl

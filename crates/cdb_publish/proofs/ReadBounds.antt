@@ -3,6 +3,7 @@ use Rattle.std.proofs.Common.{◌≡◌, ℕ, zero, suc, ◌+◌, ◌-◌, ◌�
 use Rattle.std.specs.Prelude.{slice_get}
 use Rattle.std.proofs.lemmas.Bool.{cases_lt}
 use Rattle.std.proofs.lemmas.List.Sums.{sum_by-cons}
+use Rattle.std.proofs.lemmas.Option.{same_Some}
 use Rattle.cdb_grid.specs.declared.family.Family.{Family}
 use Rattle.cdb_grid.specs.declared.family.Family.TheVariants.{Elev, Low, High, Mat}
 use Rattle.cdb_grid.specs.declared.tile.Tile.{Tile}
@@ -17,7 +18,6 @@ use Rattle.cdb_publish.specs.TileFiles.{family_needs}
 use Rattle.cdb_publish.specs.Windows.{source_size, takes_rows, window_need, window_needs}
 use Rattle.cdb_publish.specs.declared.plan.Plan.{Plan}
 use Rattle.cdb_publish.proofs.FewNeeds.{few_own, few_extreme}
-use Rattle.cdb_crash.proofs.NewestFiles.{some_is}
 
 abbrev need_of : ℕ → ℕ → SourceHead → Need
 need_of version number head = record { path = source_path version number; size = source_size head }
@@ -55,7 +55,7 @@ behind : (tiles : List Tile) (i n : ℕ) (t : Tile) → n ≡ i + 1 → slice_ge
     → drop i tiles ≡ t ∷ drop n tiles
 behind [] i n t is at = absurd cc
 behind (u ∷ tiles) zero zero t is at = absurd (omega (arith, is))
-behind (u ∷ tiles) zero (suc zero) t is at = ap (λ v. v ∷ tiles) (some_is u t at)
+behind (u ∷ tiles) zero (suc zero) t is at = ap (λ v. v ∷ tiles) (same_Some u t at)
 behind (u ∷ tiles) zero (suc (suc n)) t is at = absurd (omega (arith, is))
 behind (u ∷ tiles) (suc i) zero t is at = absurd (omega (arith, is))
 behind (u ∷ tiles) (suc i) (suc n) t is at = behind tiles i n t (omega (arith, is)) at

@@ -2,10 +2,10 @@
 use Rattle.std.proofs.Common.{◌≡◌, ◌≢◌, ℕ, ◌+◌, ◌-◌, ◌*◌, ◌<◌, ◌≤◌, inl, inr, List, Some, length, sym, ◌∙◌, subst, arith}
 use Rattle.std.specs.Prelude.{slice_get}
 use Rattle.std.proofs.lemmas.Bool.{cases_lt}
+use Rattle.std.proofs.lemmas.Option.{same_Some, slice_get_within}
 use Rattle.cdb_grid.specs.declared.tile.Tile.{Tile}
 use Rattle.cdb_source.specs.declared.head.SourceHead.{SourceHead}
 use Rattle.cdb_cut.specs.Window.{IsWindow, HasNoWindow}
-use Rattle.cdb_crash.proofs.NewestFiles.{in_range, some_is}
 use Rattle.cdb_publish.specs.Windows.{HasRoomFor, HasRoom}
 
 -- There is one least run of rows.
@@ -53,7 +53,7 @@ one_head heads t n room size next head at le more one before k other less there 
   | inr ge ↦ let same : k ≡ n = omega arith in
       let S : ℕ → Type 0 = λ i. slice_get heads i ≡ Some other in
       let H : SourceHead → Type 0 = λ h. HasRoomFor h t next in
-      subst H (some_is head other (sym at ∙ subst S same there)) (wider head t size next more one)
+      subst H (same_Some head other (sym at ∙ subst S same there)) (wider head t size next more one)
 ]
 
 pub one_tile : (heads : List SourceHead) (tiles : List Tile) (n room size next : ℕ) (t : Tile)
@@ -64,13 +64,13 @@ one_tile heads tiles n room size next t at le more one before i other less there
   | inr ge ↦ let same : i ≡ n = omega arith in
       let S : ℕ → Type 0 = λ k. slice_get tiles k ≡ Some other in
       let T : Tile → Type 0 = λ u. HasRoom heads u next in
-      subst T (some_is t other (sym at ∙ subst S same there)) (all_wider heads t size next more one)
+      subst T (same_Some t other (sym at ∙ subst S same there)) (all_wider heads t size next more one)
 ]
 
 pub all_heads : (heads : List SourceHead) (t : Tile) (n room : ℕ) → length heads ≤ n → HasRoomUpTo heads t n room
     → HasRoom heads t room
-all_heads heads t n room most up k head at = up k head (omega (arith, most, in_range heads k head at)) at
+all_heads heads t n room most up k head at = up k head (omega (arith, most, slice_get_within heads k head at)) at
 
 pub all_tiles : (heads : List SourceHead) (tiles : List Tile) (n room : ℕ) → length tiles ≤ n
     → HasRoomToTile heads tiles n room → (i : ℕ) (t : Tile) → slice_get tiles i ≡ Some t → HasRoom heads t room
-all_tiles heads tiles n room most up i t at = up i t (omega (arith, most, in_range tiles i t at)) at
+all_tiles heads tiles n room most up i t at = up i t (omega (arith, most, slice_get_within tiles i t at)) at

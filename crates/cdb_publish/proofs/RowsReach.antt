@@ -1,30 +1,23 @@
 -- A source of which a tile takes rows reaches the tile.
-use Rattle.std.proofs.Common.{◌≡◌, ℕ, ◌<◌, true, refl, sym, ap, subst, arith}
+use Rattle.std.proofs.Common.{◌≡◌, ℕ, ◌<◌, true, sym, ap, subst, arith}
 use Rattle.std.specs.List.{list_any, range_with_len}
 use Rattle.std.proofs.lemmas.Bool.Decides.{Decides-int_eq}
 use Rattle.std.proofs.lemmas.List.Folds.{Any-from_list_any}
 use Rattle.std.proofs.lemmas.List.FromFn.{length-range_with_len, get_or-range_with_len}
+use Rattle.std.proofs.lemmas.Bool.{and_parts}
 use Rattle.cdb_grid.specs.Grid.{IsCorner}
 use Rattle.cdb_grid.specs.Tiles.{tile_side, tile_height, element_corner, element_place, place_in, IsInTile}
 use Rattle.cdb_grid.specs.Units.{height_of}
 use Rattle.cdb_grid.specs.declared.tile.Tile.{Tile}
 use Rattle.cdb_grid.proofs.ElementLaws.{element-corner, place-in-tile}
-use Rattle.cdb_grid.proofs.TileOrder.{both}
 use Rattle.cdb_source.specs.Reached.{kind_of, source_height}
 use Rattle.cdb_source.specs.Sample.{IsInBox, is_in_box}
 use Rattle.cdb_source.specs.Values.{same_kind}
 use Rattle.cdb_source.specs.declared.head.SourceHead.{SourceHead}
-use Rattle.cdb_source.specs.declared.kind.Kind.{Kind}
-use Rattle.cdb_source.specs.declared.kind.Kind.TheVariants.{Elevation, Material}
 use Rattle.cdb_source.proofs.SampleLaws.{in_box}
 use Rattle.cdb_cut.specs.Window.{HasPlaceInBox, has_place, has_window}
+use Rattle.cdb_cut.proofs.WindowTests.{same_from}
 use Rattle.cdb_publish.specs.Laws.{RowsReach}
-
-same_from : (k l : Kind) → same_kind k l ≡ true → k ≡ l
-same_from Elevation Elevation e = refl
-same_from Elevation Material e = absurd cc
-same_from Material Elevation e = absurd cc
-same_from Material Material e = refl
 
 place_from : (head : SourceHead) (t : Tile) → has_place head t ≡ true → HasPlaceInBox head t
 unfolding has_place
@@ -45,8 +38,8 @@ place_from head t h =
 
 pub rows_reach : RowsReach
 rows_reach head t takes =
-    let first = both _ (has_window head t) takes in
-    let second = both (same_kind head.kind (kind_of t.family)) (has_place head t) first.1 in
+    let first = and_parts _ (has_window head t) takes in
+    let second = and_parts (same_kind head.kind (kind_of t.family)) (has_place head t) first.1 in
     let level : head.level.number ≡ t.level.number = (Decides-int_eq head.level.number t.level.number).0 first.0 in
     let height : tile_height t ≡ source_height head = ap height_of (sym level) in
     let p : HasPlaceInBox head t = place_from head t second.1 in

@@ -2,6 +2,7 @@
 use Rattle.std.proofs.Common.{◌≡◌, ℕ, zero, suc, ◌+◌, ◌-◌, ◌<◌, List, [], ◌∷◌, ◌++◌, length, get_or, drop, Option, Some, None, refl, sym, ap, ◌∙◌, subst, arith}
 use Rattle.std.specs.Prelude.{slice_get, reverse, option_to_list}
 use Rattle.std.proofs.lemmas.List.{length-map, reverse-append}
+use Rattle.std.proofs.lemmas.Option.{same_Some, none-some}
 use Rattle.cdb_source.specs.declared.source.Source.{Source}
 use Rattle.cdb_model.specs.Stands.{Stands}
 use Rattle.cdb_files.specs.Disk.{State, IsImage}
@@ -18,21 +19,6 @@ use Rattle.cdb_publish.specs.declared.plan.Plan.{Plan}
 use Rattle.cdb_publish.specs.declared.publication.Publication.{Publication}
 use Rattle.cdb_publish.specs.declared.work.Work.{Work}
 use Rattle.cdb_crash.proofs.PlanNumbers.{got}
-
--- ---- lists
-some_is : {A : Type 0} (y z : A) → Some y ≡ Some z → y ≡ z
-some_is {A = A} y z e = ap value e
-  where
-    value : Option A → A
-    value None = y
-    value (Some w) = w
-
-none_some : {A B : Type 0} (y : A) → None ≡ Some y → B
-none_some {A = A} {B = B} y e = let P : Option A → Type 0 = Gone in absurd (subst P e tt)
-  where
-    Gone : Option A → Type 0
-    Gone None = Unit {0}
-    Gone (Some z) = ⊥
 
 drop_head : {A : Type 0} (x : List A) (n : ℕ) (s : A) (rest : List A) → s ∷ rest ≡ drop n x → slice_get x n ≡ Some s
 drop_head {A = A} [] zero s rest e = let P : List A → Type 0 = Empty in absurd (subst P (sym e) tt)
@@ -62,8 +48,8 @@ drop_tail (y ∷ x) (suc n) (suc m) is = drop_tail x n m (omega (arith, is))
 
 last_apart : {A : Type 0} (ss : List A) (i : ℕ) (s : A) → i + 1 ≡ length ss → slice_get ss i ≡ Some s
     → (front : List A) × (ss ≡ front ++ s ∷ [])
-last_apart [] i s is e = none_some s e
-last_apart (y ∷ []) zero s is e = ([], ap (λ z. z ∷ []) (some_is y s e))
+last_apart [] i s is e = absurd (none-some s e)
+last_apart (y ∷ []) zero s is e = ([], ap (λ z. z ∷ []) (same_Some y s e))
 last_apart (y ∷ z ∷ ss) zero s is e = absurd (omega (arith, is))
 last_apart (y ∷ ss) (suc i) s is e = let l = last_apart ss i s (omega (arith, is)) e in (y ∷ l.0, ap (λ t. y ∷ t) l.1)
 
@@ -84,7 +70,7 @@ rest_sources before after x None n len is parts value rev = empty before after i
   where
     empty : (before after : List Source) → len ≡ length before → before ≡ after ++ []
         → ((d : Source) → 0 < len → None ≡ Some (get_or before (len - 1) d)) → reverse after ≡ drop 1 (reverse before)
-    empty (s ∷ before) after l e v = none_some _ (v s (omega (arith, l)))
+    empty (s ∷ before) after l e v = absurd (none-some _ (v s (omega (arith, l))))
     empty [] [] l e v = refl
     empty [] (s ∷ after) l e v = absurd (omega (arith, ap length e))
 rest_sources before after x (Some s) n len is parts value rev =
@@ -124,4 +110,4 @@ pub opened : (q : Publication) (w : Work) (P : List (List Source)) (x : List Sou
     (s : State) → q.work ≡ Some w → Underway q P x number kept s
     → Holds w P x number kept s
 opened q w P x number kept s is u = let H : Work → Type 0 = λ v. Holds v P x number kept s in
-    subst H (some_is u.work w (sym u.is ∙ is)) (record { fits = u.fits; records = u.records; mid = u.mid })
+    subst H (same_Some u.work w (sym u.is ∙ is)) (record { fits = u.fits; records = u.records; mid = u.mid })

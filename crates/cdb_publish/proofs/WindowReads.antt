@@ -1,5 +1,5 @@
 -- Rows of new sources: what is read of them, and the sources in a loop, the last one first.
-use Rattle.std.proofs.Common.{◌≡◌, ℕ, zero, suc, ◌+◌, ◌-◌, ◌*◌, ◌<◌, ◌≤◌, ℤ, Bool, true, false, ◌&&◌, if◌then◌else◌, List, [], ◌∷◌, ◌++◌, length, take, drop, get_or, All, Some, slice_get, refl, sym, ap, ◌∙◌, subst, arith, append_assoc, append-nil}
+use Rattle.std.proofs.Common.{◌≡◌, ℕ, zero, suc, ◌+◌, ◌-◌, ◌*◌, ◌<◌, ◌≤◌, ℤ, Bool, ◌&&◌, if◌then◌else◌, List, [], ◌∷◌, ◌++◌, length, take, drop, get_or, All, Some, slice_get, refl, sym, ap, ◌∙◌, subst, arith, append_assoc, append-nil}
 use Rattle.std.specs.Ordering.{int_eq}
 use Rattle.std.proofs.lemmas.Bool.Decides.{Decides-int_eq}
 use Rattle.std.proofs.lemmas.List.Elements.{All-take, All-drop}
@@ -15,8 +15,9 @@ use Rattle.cdb_cut.specs.Window.{HasNoWindow, IsWindow, has_window, rows_of}
 use Rattle.cdb_cut.proofs.PaintedSources.{one_older}
 use Rattle.cdb_cut.proofs.WindowTests as windows
 use Rattle.std.proofs.lemmas.List.{length-map}
+use Rattle.std.proofs.lemmas.Bool.{and_left, and_right, false_from_ne_true}
+use Rattle.std.proofs.lemmas.Option.{same_Some}
 use Rattle.cdb_model.specs.Publications.{heads_of}
-use Rattle.cdb_crash.proofs.NewestFiles.{some_is}
 use Rattle.cdb_crash.proofs.PlanNumbers.{got, get-map}
 use Rattle.cdb_publish.specs.Needs.{Need}
 use Rattle.cdb_publish.specs.Windows.{source_size, window_need, window_needs}
@@ -45,17 +46,6 @@ rows_read s head first count at content piece posts same there at_is len has spe
 
 -- ---- which sources a tile takes rows of
 
-not_true : (b : Bool) → (b ≡ true → ⊥) → b ≡ false
-not_true true h = absurd (h refl)
-not_true false h = refl
-
-first_false : (a b : Bool) → a ≡ false → (a && b) ≡ false
-first_false a b e = ap (λ x. x && b) e
-
-last_false : (a b : Bool) → b ≡ false → (a && b) ≡ false
-last_false true b e = e
-last_false false b e = refl
-
 abbrev needs_if : (version number : ℕ) (head : SourceHead) → Bool → List Need
 needs_if version number head b = if b then record { path = source_path version number; size = source_size head } ∷ []
     else []
@@ -64,15 +54,15 @@ pub other_level : (version number : ℕ) (head : SourceHead) (t : Tile) → (hea
     → window_need version number head t ≡ []
 other_level version number head t other =
     ap (needs_if version number head)
-    (first_false _ _
-    (not_true (int_eq head.level.number t.level.number)
+    (and_left _ _
+    (false_from_ne_true (int_eq head.level.number t.level.number)
     (λ e. other ((Decides-int_eq head.level.number t.level.number).0 e))))
 
 pub no_rows : (version number : ℕ) (head : SourceHead) (t : Tile) → HasNoWindow head t
     → window_need version number head t ≡ []
 no_rows version number head t none =
     ap (needs_if version number head)
-    (last_false (int_eq head.level.number t.level.number) _ (windows.no_rows head t none))
+    (and_right (int_eq head.level.number t.level.number) _ (windows.no_rows head t none))
 
 pub some_rows : (version number : ℕ) (head : SourceHead) (t : Tile) (first count : ℕ)
     → head.level.number ≡ t.level.number → IsWindow head t first count
@@ -134,7 +124,7 @@ drop_end (x ∷ xs) (suc n) le = drop_end xs n (omega (arith, le))
 
 pub same_at : {A : Type 0} (xs : List A) (k : ℕ) (x y : A) → k < length xs → x ≡ get_or xs k x
     → slice_get xs k ≡ Some y → x ≡ y
-same_at xs k x y l e at = some_is x y (sym (got xs k x l e) ∙ at)
+same_at xs k x y l e at = same_Some x y (sym (got xs k x l e) ∙ at)
 
 pub head_there : (heads : List SourceHead) (x : List Source) (k : ℕ) (s : Source) → heads ≡ heads_of x
     → slice_get x k ≡ Some s → slice_get heads k ≡ Some s.head

@@ -9,13 +9,13 @@ use Rattle.cdb_files.specs.Disk.{State, IsImage, after_sync_dir, after_remove}
 use Rattle.cdb_files.specs.Moments.{Elapses, AddsOnly, IsBetween}
 use Rattle.cdb_files.specs.Whole.{WritesOnly}
 use Rattle.cdb_files.proofs.MomentLaws.{started, goes_on, then_on, weaker}
+use Rattle.cdb_files.proofs.StateLaws.{sync_dir-present}
 use Rattle.cdb_crash.specs.Crash.{IsWhole, IsEither, IsFaulted}
 use Rattle.cdb_crash.specs.Leftovers.{IsOfVersion, IsLeftover, HasAtMost}
 use Rattle.cdb_crash.proofs.Clearing.{removed-at}
 use Rattle.cdb_crash.proofs.HeadTexts.{head_text_tells}
 use Rattle.cdb_crash.proofs.Own as own
 use Rattle.cdb_crash.proofs.Paths.{not_new_head, at_most-none, at_most-wider}
-use Rattle.cdb_crash.proofs.Possible.{sync_dir-present}
 use Rattle.cdb_recover.specs.Answers.{IsAnswer, NamesNewest, NamesNone, HasNoLeftover, RemovesLeftovers, KeepsStore}
 use Rattle.cdb_recover.specs.inside.Answers.{IsCleared}
 use Rattle.cdb_recover.proofs.Removals.{others_stay}
@@ -135,11 +135,6 @@ keeps_named newest old new named kept = record {
 
 pub keeps_all : (m : FileMap) → KeepsStore m m
 keeps_all m = record { named = λ newest is. none_left_over newest m; unnamed = λ none q. refl }
-
--- What follows of a value.
-pub if_ok : {T E : Type 0} (r : Result T E) (P Q : Type 0) → (P → Q) → OnOk r P → OnOk r Q
-if_ok (Ok v) P Q follows holds = follows holds
-if_ok (Err e) P Q follows holds = tt
 
 pub ok_of : {T E : Type 0} (r : Result T E) (Q : T → Type 0) (v : T) → IfOk r (λ w. w ≡ v) → OnOk r (Q v) → IfOk r Q
 ok_of (Ok w) Q v same holds = subst Q (sym same) holds

@@ -8,12 +8,11 @@ use Rattle.cdb_files.specs.Disk.{State, IsImage, Fails, after_remove, after_sync
 use Rattle.cdb_files.specs.Moments.{Elapses, AddsOnly, IsBetween}
 use Rattle.cdb_files.specs.Whole.{WritesOnly, IsImageBut}
 use Rattle.cdb_files.proofs.MomentLaws.{goes_on}
-use Rattle.cdb_files.proofs.StateLaws.{image-but}
+use Rattle.cdb_files.proofs.StateLaws.{image-but, sync_dir-present}
 use Rattle.cdb_crash.specs.Recovery.{after_removal}
 use Rattle.cdb_crash.proofs.Clearing.{removed-at, removed-present}
 use Rattle.cdb_crash.proofs.Own as own
 use Rattle.cdb_crash.proofs.Paths.{one_less, at_most-wider, at_most-with, at_most-none}
-use Rattle.cdb_crash.proofs.Possible.{sync_dir-present}
 use Rattle.cdb_recover.specs.inside.Clearing.{IsLeftUnder, RemovesOne, RemovesUnder}
 
 -- ---- the moments of a removal that is synced

@@ -1,14 +1,12 @@
 -- Summaries of cells: cells that no source reaches, and a cell from its four finer cells.
 use Rattle.std.proofs.Common.{◌≡◌, ℕ, zero, suc, ◌+◌, ◌-◌, ◌*◌, ◌/◌, ◌<◌, ◌≤◌, ℤ, true, cond, ◌&&◌, nat_le, nat_eq, List, [], ◌∷◌, map, All, Option, Some, None, refl, sym, ap, ap₂, ◌∙◌, subst, inl, inr, arith}
 use Rattle.std.specs.Option.{option_map, option_or}
-use Rattle.std.proofs.lemmas.Bool.{cases_Bool}
+use Rattle.std.proofs.lemmas.Bool.{cases_Bool, leb-true}
 use Rattle.std.proofs.lemmas.Bool.Decides.{nat_tests}
 use Rattle.std.proofs.lemmas.List.Elements.{All-head, All-tail}
-use Rattle.std.proofs.Math.Nat.{mul-pos}
 use Rattle.cdb_grid.specs.Units.{degree, step, width_at}
-use Rattle.cdb_grid.specs.Grid.{Place, width_of, step_east, IsCorner, IsInCell, beside, centre}
-use Rattle.cdb_grid.proofs.UnitLaws.{step-pos}
-use Rattle.cdb_grid.proofs.GridLaws.{same_place, IsCorner_finer, child_corner, in_parent, width_of-pos}
+use Rattle.cdb_grid.specs.Grid.{Place, width_of, IsCorner, beside, centre}
+use Rattle.cdb_grid.proofs.GridLaws.{same_place, IsCorner_finer, child_corner, in_parent}
 use Rattle.cdb_source.proofs.SampleLaws.{in_box_of_sample}
 use Rattle.cdb_source.proofs.MaterialLaws.{of_none}
 use Rattle.cdb_source.specs.declared.kind.Kind.{Kind}
@@ -18,14 +16,12 @@ use Rattle.cdb_source.specs.Sample.{IsInBox, sample_at}
 use Rattle.cdb_source.specs.Offers.{over, best, newest}
 use Rattle.cdb_source.specs.Values.{Sampled, sampled, same_kind, offer, own, elevation, low, high, material}
 use Rattle.cdb_source.specs.Reached.{source_height}
+use Rattle.cdb_source.proofs.ReachLaws.{itself}
 use Rattle.cdb_scratch.specs.inside.Cells.{ReachesCell}
 use Rattle.cdb_scratch.specs.inside.Summaries.{summary_kind, summary_of, own_of, combined}
 use Rattle.cdb_material.specs.declared.four.Four.{Four}
 use Rattle.cdb_scratch.specs.declared.cell.Summary.{Summary}
 use Rattle.cdb_scratch.specs.declared.cell.Summary.TheVariants.{Least, Greatest, MostFrequent}
-
-le_of_true : (m n : ℕ) → nat_le m n ≡ true → m ≤ n
-le_of_true m n t = grind (arith, nat_tests)
 
 same_of_true : (m n : ℕ) → nat_eq m n ≡ true → m ≡ n
 same_of_true m n t = grind (arith, nat_tests)
@@ -36,7 +32,7 @@ offers_none : (kind : Kind) (m k : ℕ) (o : Option ℤ) → (kind ≡ Elevation
 offers_none Material m k o unreached = refl
 offers_none Elevation m k None unreached = elim (cases_Bool (nat_le m k)) [ inl t ↦ rw t refl | inr f ↦ rw f refl ]
 offers_none Elevation m k (Some v) unreached =
-    elim (cases_Bool (nat_le m k)) [ inl t ↦ absurd (unreached refl (le_of_true m k t) v refl) | inr f ↦ rw f refl ]
+    elim (cases_Bool (nat_le m k)) [ inl t ↦ absurd (unreached refl (leb-true m k t) v refl) | inr f ↦ rw f refl ]
 
 owns_none : (kind : Kind) (m k : ℕ) (o : Option ℤ) → (kind ≡ Material → m ≡ k → (v : ℤ) → o ≡ Some v → ⊥)
     → cond (same_kind kind Material && nat_eq m k) o None ≡ None
@@ -48,12 +44,6 @@ owns_none Material m k (Some v) unreached =
 -- none of a list of sources reaches a cell
 abbrev pub NoneReaches : Kind → ℕ → Place → List Source → Type 0
 NoneReaches kind h c ss = All (λ s. ReachesCell kind h c s.head → ⊥) ss
-
-itself : (h : ℕ) (c : Place) → IsInCell h c c
-itself h c =
-    let p : 0 < step h = step-pos h in
-    let q : 0 < step_east h c = mul-pos (width_of-pos c) p in
-    record { south = omega arith; north = omega arith; west = omega arith; east = omega arith }
 
 no_best : (h : ℕ) (c : Place) (ss : List Source) → IsCorner h c → NoneReaches Elevation h c ss
     → best (map (offer h c) (map sampled ss)) ≡ None

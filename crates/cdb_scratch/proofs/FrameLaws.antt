@@ -1,27 +1,11 @@
 -- Frames that are written number by number and row by row.
-use Rattle.std.proofs.Common.{◌≡◌, ◌≢◌, ℕ, suc, ◌+◌, ◌-◌, ◌*◌, ◌<◌, ◌≤◌, inl, inr, ℤ, pos, List, get_or-set_same, length, set, sym, ◌∙◌, ap, arith}
+use Rattle.std.proofs.Common.{◌≡◌, ℕ, suc, ◌+◌, ◌-◌, ◌*◌, ◌<◌, ◌≤◌, inl, inr, ℤ, List, length, sym, ◌∙◌, ap, arith}
 use Rattle.std.proofs.lemmas.Bool.{cases_lt}
-use Rattle.std.proofs.lemmas.List.{places}
 use Rattle.std.proofs.Math.Nat.{mul-le-mul_right}
 use borrow.Rule.Slice.PartMut.{put_mid}
 use Rattle.cdb_grid.specs.Frames.{number_in, number_at}
-
-set_here : (xs : List ℤ) (n : ℕ) (v : ℤ) → n < length xs → number_in (set xs n v) n ≡ v
-set_here xs n v lt = get_or-set_same xs n v (pos 0) lt
-
-set_other : (xs : List ℤ) (n k : ℕ) (v : ℤ) → k ≢ n → number_in (set xs n v) k ≡ number_in xs k
-set_other xs n k v ne = grind (arith, places)
-
-put_below : (a w i : ℕ) (xs ys : List ℤ) → i < a → a + w ≤ length xs → length ys ≡ w → number_in (put_mid a w xs ys) i
-    ≡ number_in xs i
-put_below a w i xs ys lt fits e = grind (arith, places)
-
-put_inside : (a w i : ℕ) (xs ys : List ℤ) → i < w → a + w ≤ length xs → length ys ≡ w
-    → number_in (put_mid a w xs ys) (a + i) ≡ number_in ys i
-put_inside a w i xs ys lt fits e = grind (arith, places)
-
-row_before : (r n side c : ℕ) → r < n → c < side → r * side + c < n * side
-row_before r n side c lt below = let m : suc r * side ≤ n * side = mul-le-mul_right side lt in omega arith
+use Rattle.cdb_grid.proofs.FrameLaws.{put_below, put_inside}
+use Rattle.cdb_cut.proofs.PostLaws.{index_below}
 
 row_fits : (n side len : ℕ) → n < side → len ≡ side * side → n * side + side ≤ len
 row_fits n side len lt e = let m : suc n * side ≤ side * side = mul-le-mul_right side lt in omega arith
@@ -37,7 +21,7 @@ row_more want n side a w xs ys lt from wide size len done row r c below under =
     let fit : a + w ≤ length xs = omega arith in
     let full : length ys ≡ w = len ∙ sym wide in
     elim (cases_lt r n) [
-      | inl p ↦ let before : r * side + c < n * side = row_before r n side c p under in
+      | inl p ↦ let before : r * side + c < n * side = index_below r c n side p under in
           let left : r * side + c < a = omega arith in
           put_below a w (r * side + c) xs ys left fit full ∙ done r c p under
       | inr p ↦ let q : r ≡ n = omega arith in let in_part : c < w = omega arith in

@@ -1,8 +1,7 @@
 -- Laws of the elevation and of the material at a place, one source after the other.
 use Rattle.std.proofs.Common.{◌≡◌, ℕ, ◌+◌, ◌<◌, ◌≤◌, ℤ, true, false, cond, nat_le, inl, inr, List, [], ◌∷◌, ◌++◌, length, take, get_or, map, Option, Some, None, refl, sym, ap, ◌∙◌, arith}
 use Rattle.std.specs.Option.{option_map, option_or}
-use Rattle.std.proofs.lemmas.Bool.{cases_lt}
-use Rattle.std.proofs.lemmas.Bool.Decides.{nat_tests}
+use Rattle.std.proofs.lemmas.Bool.{cases_lt, le-leb, lt-leb}
 use Rattle.std.proofs.lemmas.List.{take_more, take_all, map-append}
 use Rattle.cdb_grid.specs.Grid.{Place}
 use Rattle.cdb_source.specs.declared.source.Source.{Source}
@@ -11,28 +10,22 @@ use Rattle.cdb_source.specs.Offers.{over, best, newest}
 use Rattle.cdb_source.specs.Values.{sampled, offer, own, newest_own, elevation_of}
 use Rattle.cdb_source.proofs.OfferLaws.{over_none, newest-append}
 
-le_true : (m n : ℕ) → m ≤ n → nat_le m n ≡ true
-le_true m n h = grind (arith, nat_tests)
-
-le_false : (m n : ℕ) → n < m → nat_le m n ≡ false
-le_false m n h = grind (arith, nat_tests)
-
 over_three : {X : Type 0} (x y z : ℕ × X) → over (Some x) (cond (nat_le z.0 y.0) (Some z) (Some y))
     ≡ over (cond (nat_le y.0 x.0) (Some y) (Some x)) (Some z)
 over_three x y z =
     elim (cases_lt y.0 z.0) [
-      | inl a ↦ let zy : nat_le z.0 y.0 ≡ false = le_false z.0 y.0 a in
+      | inl a ↦ let zy : nat_le z.0 y.0 ≡ false = lt-leb z.0 y.0 a in
           elim (cases_lt x.0 y.0) [
-            | inl b ↦ let yx : nat_le y.0 x.0 ≡ false = le_false y.0 x.0 b in
-                let zx : nat_le z.0 x.0 ≡ false = le_false z.0 x.0 (omega arith) in
+            | inl b ↦ let yx : nat_le y.0 x.0 ≡ false = lt-leb y.0 x.0 b in
+                let zx : nat_le z.0 x.0 ≡ false = lt-leb z.0 x.0 (omega arith) in
                 rw (zy, yx) (rw zx refl)
-            | inr b ↦ let yx : nat_le y.0 x.0 ≡ true = le_true y.0 x.0 b in rw (zy, yx) (rw zy refl)
+            | inr b ↦ let yx : nat_le y.0 x.0 ≡ true = le-leb y.0 x.0 b in rw (zy, yx) (rw zy refl)
           ]
-      | inr a ↦ let zy : nat_le z.0 y.0 ≡ true = le_true z.0 y.0 a in
+      | inr a ↦ let zy : nat_le z.0 y.0 ≡ true = le-leb z.0 y.0 a in
           elim (cases_lt x.0 y.0) [
-            | inl b ↦ let yx : nat_le y.0 x.0 ≡ false = le_false y.0 x.0 b in rw (zy, yx) refl
-            | inr b ↦ let yx : nat_le y.0 x.0 ≡ true = le_true y.0 x.0 b in
-                let zx : nat_le z.0 x.0 ≡ true = le_true z.0 x.0 (omega arith) in
+            | inl b ↦ let yx : nat_le y.0 x.0 ≡ false = lt-leb y.0 x.0 b in rw (zy, yx) refl
+            | inr b ↦ let yx : nat_le y.0 x.0 ≡ true = le-leb y.0 x.0 b in
+                let zx : nat_le z.0 x.0 ≡ true = le-leb z.0 x.0 (omega arith) in
                 rw (zy, yx) (rw (zx, zy) refl)
           ]
     ]

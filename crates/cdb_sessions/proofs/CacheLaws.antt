@@ -21,9 +21,10 @@ use Rattle.cdb_pool.proofs.FrameLaws.{Fits, contents-written, contents-written_o
 use Rattle.cdb_sessions.specs.declared.slot.Pair.{Pair}
 use Rattle.cdb_sessions.specs.declared.slot.Slot.{Slot}
 use Rattle.cdb_sessions.specs.Slots.{NumberedSlot, fresh, filled_slot, holds, is_pair, IsMoved, IsRenewed}
-use Rattle.cdb_sessions.specs.Cache.{Kept, file_length, kept_with, kept_one, kept_files, HasNone, IsMovedToFront}
+use Rattle.cdb_sessions.specs.Cache.{Kept, kept_with, kept_one, kept_files, HasNone, IsMovedToFront}
 use Rattle.cdb_sessions.specs.Cache.{IsPooled, frames_of, FilesFirst, frame_of, numbered_frames, IsCache}
 use Rattle.cdb_sessions.specs.inside.Cache.{with_flags}
+use Rattle.cdb_tiff_write.specs.Rasters.{tile_size}
 
 -- ---- how many there are
 
@@ -103,7 +104,7 @@ module _ (pool : Frames ℕ) where
       let e : NumberedSlot = (m.number, filled_slot frame pair) in
       record {
         before = kept_files pool m.before;
-        bytes = take (file_length pair.tile) (contents pool frame);
+        bytes = take (tile_size pair.tile) (contents pool frame);
         after = kept_files pool m.after;
         was = ap (kept_files pool) m.was ∙ kept_moved m.before e m.after;
         now = ap (kept_files pool) m.now
@@ -174,7 +175,7 @@ module _ (pool : Frames ℕ) (last : NumberedSlot) where
       none_in pool us (all_left (λ (f : NumberedSlot). f.1.pair ≡ None) us (last ∷ []) all)
       ∙ ap (take (suc (length us))) (sym (none_in pool (us ++ last ∷ []) all))
   drop_one frame (Some pair) us none e =
-      ap (λ ks. record { pair = pair; bytes = take (file_length pair.tile) (contents pool frame) } ∷ ks) e
+      ap (λ ks. record { pair = pair; bytes = take (tile_size pair.tile) (contents pool frame) } ∷ ks) e
 
   drop_last : (us : List NumberedSlot) → FilesFirst (us ++ last ∷ [])
       → kept_files pool us ≡ take (length us) (kept_files pool (us ++ last ∷ []))
@@ -191,10 +192,10 @@ renewed_length us last es was count = omega (arith, ap length was, length-append
 pub renewed_kept : (pool : Frames ℕ) (frames : List Frame) (old new : LruCache ℕ Slot) (spare given : ℕ) (pair : Pair)
     → IsCache pool frames old spare → IsRenewed spare pair old new given
     → kept_files pool new.entries
-    ≡ record { pair = pair; bytes = take (file_length pair.tile) (contents pool spare) } ∷ take 6
+    ≡ record { pair = pair; bytes = take (tile_size pair.tile) (contents pool spare) } ∷ take 6
     (kept_files pool old.entries)
 renewed_kept pool frames old new spare given pair h r =
-    let k : Kept = record { pair = pair; bytes = take (file_length pair.tile) (contents pool spare) } in
+    let k : Kept = record { pair = pair; bytes = take (tile_size pair.tile) (contents pool spare) } in
     let six = renewed_length r.before r.last old.entries r.was h.count in
     let rest = drop_last pool r.last r.before (subst FilesFirst r.was h.files_first) in
     ap (λ (c : LruCache ℕ Slot). kept_files pool c.entries) r.now
@@ -239,7 +240,7 @@ same_kept : (pool : Frames ℕ) (spare : ℕ) (w : List ℕ) (frame : ℕ) → c
     → kept_with (written pool spare w) frame kept ++ xs ≡ kept_with pool frame kept ++ ys
 same_kept pool spare w frame e None xs ys r = r
 same_kept pool spare w frame e (Some pair) xs ys r =
-    λ i. record { pair = pair; bytes = take (file_length pair.tile) (e i) } ∷ r i
+    λ i. record { pair = pair; bytes = take (tile_size pair.tile) (e i) } ∷ r i
 
 all_other : (pool : Frames ℕ) (spare : ℕ) (w : List ℕ) → Fits pool spare → length w ≡ pool.frame_length
     → (es : List NumberedSlot) → AllByRecursion (λ f. nat_eq spare f ≡ false) (frames_of es)
@@ -323,14 +324,14 @@ pub record HeadOf (pool : Frames ℕ) (es : List NumberedSlot) (slot : Slot) : T
   pub small : slot.frame < 8
   pub filled : slot.pair ≡ None → ⊥
   pub head : (pair : Pair) → slot.pair ≡ Some pair → slice_get (kept_files pool es) 0
-      ≡ Some (record { pair = pair; bytes = take (file_length pair.tile) (contents pool slot.frame) })
+      ≡ Some (record { pair = pair; bytes = take (tile_size pair.tile) (contents pool slot.frame) })
 
 head_some : (pool : Frames ℕ) (frame : ℕ) (kept : Option Pair) (ks : List Kept) (pair : Pair) → kept ≡ Some pair
     → slice_get (kept_with pool frame kept ++ ks) 0
-    ≡ Some (record { pair = pair; bytes = take (file_length pair.tile) (contents pool frame) })
+    ≡ Some (record { pair = pair; bytes = take (tile_size pair.tile) (contents pool frame) })
 head_some pool frame None ks pair e = absurd cc
 head_some pool frame (Some other) ks pair e = let same : other ≡ pair = cc in
-    ap (λ (p : Pair). Some (record { pair = p; bytes = take (file_length p.tile) (contents pool frame) })) same
+    ap (λ (p : Pair). Some (record { pair = p; bytes = take (tile_size p.tile) (contents pool frame) })) same
 
 pub head_of : (pool : Frames ℕ) (es : List NumberedSlot) (n : ℕ) (slot : Slot) → FilesFirst es
     → AllByRecursion (λ f. f < 8) (frames_of es) → 0 < length (kept_files pool es) → slice_get es 0 ≡ Some (n, slot)

@@ -10,13 +10,13 @@ use Rattle.lru.specs.LruCache.{LruCache, lru_cache, promoted, put_entries, last_
 use Rattle.lru.proofs.Pairs.{cut_end, last_of_push}
 use Rattle.std.proofs.lemmas.List.{take_all, append-nil}
 use borrow.Author.Tests.{eqb-true}
-use Rattle.std.proofs.lemmas.Bool.{ne_eqb}
+use Rattle.std.proofs.lemmas.Bool.{ne_eqb, and_parts}
 use Rattle.cdb_grid.specs.Order.{tile_cmp}
 use Rattle.cdb_sessions.specs.declared.slot.Pair.{Pair}
 use Rattle.cdb_sessions.specs.declared.slot.Slot.{Slot}
 use Rattle.cdb_sessions.specs.Slots.{NumberedSlot, fresh, fresh_slot, filled_slot, is_pair, holds, IsMoved, IsRenewed}
 use Rattle.cdb_sessions.proofs.Cuts.{found_at, none_found, Sole, sole}
-use Rattle.cdb_grid.proofs.TileOrder.{both, same_by_order}
+use Rattle.cdb_grid.proofs.TileOrder.{same_by_order}
 
 -- ---- seven slots, one after another
 
@@ -41,7 +41,7 @@ put_fresh n lt =
 pair_is : (pair : Pair) (kept : Option Pair) → is_pair pair kept ≡ true → kept ≡ Some pair
 pair_is pair None e = absurd cc
 pair_is pair (Some kept) e =
-    let h = both (nat_eq kept.version pair.version) (is_eq (tile_cmp kept.tile pair.tile)) e in
+    let h = and_parts (nat_eq kept.version pair.version) (is_eq (tile_cmp kept.tile pair.tile)) e in
     let version : kept.version ≡ pair.version = eqb-true _ _ h.0 in
     let tile = same_by_order kept.tile pair.tile h.1 in
     λ i. Some (record { version = version i; tile = tile i })

@@ -1,11 +1,8 @@
 -- The files that are kept in memory.
-use Rattle.std.specs.Prelude.{◌≡◌, ℕ, zero, suc, ◌+◌, ◌-◌, ◌*◌, ◌/◌, ◌<◌, Bool, true, false, nat_eq, List, []}
+use Rattle.std.specs.Prelude.{◌≡◌, ℕ, zero, suc, ◌+◌, ◌-◌, ◌*◌, ◌<◌, Bool, true, false, nat_eq, List, []}
 use Rattle.std.specs.Prelude.{◌∷◌, ◌++◌, map, take, length, replicate, Option, Some, None, ◌≢◌}
 use Rattle.std.specs.List.{flat_map, AllByRecursion, IsDistinct}
 use Rattle.lru.specs.LruCache.{LruCache}
-use Rattle.cdb_grid.specs.Tiles.{tile_side}
-use Rattle.cdb_grid.specs.declared.tile.Tile.{Tile}
-use Rattle.cdb_model.specs.TileFile.{bits_of}
 use Rattle.cdb_model.specs.Maps.{FileMap, size_of}
 use Rattle.cdb_pool.specs.Frames.{Frames, contents}
 use Rattle.cdb_pool.specs.declared.frame.Frame.{Frame}
@@ -13,11 +10,8 @@ use Rattle.cdb_model.specs.Names.{path}
 use Rattle.cdb_sessions.specs.declared.slot.Pair.{Pair}
 use Rattle.cdb_sessions.specs.declared.slot.Slot.{Slot}
 use Rattle.cdb_sessions.specs.Slots.{NumberedSlot}
-use Rattle.cdb_model.specs.declared.limits.TheConstants.{MOST_TILE_BYTES, TILE_HEAD_BYTES}
-
--- how many bytes the file of a tile has: a head of 186 bytes and the raster
-abbrev pub file_length : Tile → ℕ
-file_length t = TILE_HEAD_BYTES + tile_side t * tile_side t * (bits_of t.family / 8)
+use Rattle.cdb_model.specs.declared.limits.TheConstants.{MOST_TILE_BYTES}
+use Rattle.cdb_tiff_write.specs.Rasters.{tile_size}
 
 -- a file that is kept: its version and tile, and its bytes
 pub record Kept : Type 0 where
@@ -34,7 +28,7 @@ pub record Cache : Type 0 where
 abbrev pub kept_with : Frames ℕ → ℕ → Option Pair → List Kept
 kept_with pool frame None = []
 kept_with pool frame (Some pair) =
-    record { pair = pair; bytes = take (file_length pair.tile) (contents pool frame) } ∷ []
+    record { pair = pair; bytes = take (tile_size pair.tile) (contents pool frame) } ∷ []
 
 abbrev pub kept_one : Frames ℕ → NumberedSlot → List Kept
 kept_one pool e = kept_with pool e.1.frame e.1.pair
@@ -100,12 +94,12 @@ flags n = replicate n true ++ replicate (8 - n) false
 -- a file was read and is the first now; of seven files the last one went
 pub record IsKept (Tells : Type 0) (present : FileMap) (pair : Pair) (old new : List Kept) : Type 0 where
   pub bytes : List ℕ
-  pub len : length bytes ≡ file_length pair.tile
+  pub len : length bytes ≡ tile_size pair.tile
   pub told : Tells → present (path pair.version pair.tile) ≡ Some bytes
   pub now : new ≡ record { pair = pair; bytes = bytes } ∷ take 6 old
 
 -- a file isn't there or has another size than its form gives
 pub record IsDamaged (Tells : Type 0) (present : FileMap) (pair : Pair) (expected : ℕ) (found : Option ℕ) : Type 0 where
-  pub form : expected ≡ file_length pair.tile
+  pub form : expected ≡ tile_size pair.tile
   pub other : found ≢ Some expected
   pub told : Tells → found ≡ size_of (present (path pair.version pair.tile))

@@ -4,18 +4,19 @@ ghost use Rattle.std.specs.Prelude.{option_map, slice_get, IfOk, OnOk};
 ghost use Rattle.cdb_model.specs.Causes.{HasCause, Rose};
 ghost use Rattle.cdb_files.specs.Moments.{Rests};
 ghost use Rattle.cdb_files.specs.Whole.{IsOtherThan};
-ghost use Rattle.cdb_sessions.specs.Cache.{Kept, file_length, numbered_frames};
+ghost use Rattle.cdb_tiff_write.specs.Rasters.{tile_size};
+ghost use Rattle.cdb_sessions.specs.Cache.{Kept, numbered_frames};
 ghost use Rattle.cdb_sessions.specs.inside.Cache.{IsUsed, IsFileRead, IsReadFrom, with_flags};
 ghost use Rattle.cdb_model.specs.declared.limits.TheConstants.{MOST_VERSIONS};
 
 use crate::errors::TileError;
-use crate::file::file_length;
 use crate::slot::Pair;
 use crate::slots::{Slots, new_slots, renew_last, use_slot};
 use cdb_files::{Disk, Failed, Path, ReadSize, read_whole};
 use cdb_model::MOST_TILE_BYTES;
 use cdb_names::write_path;
 use cdb_pool::{Frame, Pool};
+use cdb_tiff_write::tile_size;
 use std::alloc::{AllocError, Global};
 use std::marker::Model;
 
@@ -96,7 +97,7 @@ impl Cache {
         &mut self,
         disk: &mut D,
         path: &Path,
-        len: u32,
+        len: usize,
     ) -> Result<ReadSize, Failed>
         requires { len ≤ MOST_TILE_BYTES }
         ensures kept { self.new.kept ≡ self.old.kept }
@@ -112,7 +113,7 @@ impl Cache {
     {
         let frame = &self.frames[self.spare as usize];
         let into = self.pool.get_mut(frame);
-        read_into(disk, path, into, len as usize)
+        read_into(disk, path, into, len)
     }
 
     /// Reads the file from the disk and keeps it, as the first.
@@ -128,7 +129,7 @@ impl Cache {
             × (D.read_count disk.new ≤ D.read_count disk.old + 1) }
     {
         let path = write_path(pair.version, &pair.tile);
-        let len = file_length(&pair.tile);
+        let len = tile_size(&pair.tile);
         match self.fill_spare(disk, &path, len) {
             Ok(ReadSize::Read) => {
                 self.keep(pair);
@@ -155,7 +156,7 @@ impl Cache {
             unreachable!();
         };
         let bytes = self.pool.get(&self.frames[slot.frame as usize]);
-        bytes.split_at(file_length(&pair.tile) as usize).0
+        bytes.split_at(tile_size(&pair.tile)).0
     }
 
     /// At most seven files are kept.
@@ -179,7 +180,7 @@ impl Cache {
     /// one goes.
     pub(crate) fn keep(&mut self, pair: Pair)
         ensures { self.new.kept
-            ≡ record { pair = pair; bytes = take (file_length pair.tile) self.old.spare } ∷ take 6 self.old.kept }
+            ≡ record { pair = pair; bytes = take (tile_size pair.tile) self.old.spare } ∷ take 6 self.old.kept }
     {
         self.spare = renew_last(&mut self.slots, self.spare, pair);
     }

@@ -2,7 +2,7 @@
 use Rattle.std.proofs.Common.{◌≡◌, ℕ, zero, suc, ◌<◌, ◌≤◌, ℤ, true, false, cond, ◌&&◌, nat_le, List, [], ◌∷◌, map, Option, Some, None, refl, sym, ap, ◌∙◌, arith, inl, inr, ◌⊎◌}
 use Rattle.std.specs.Prelude.{slice_get}
 use Rattle.std.specs.Option.{option_map}
-use Rattle.std.proofs.lemmas.Bool.{cases_lt, cases_Bool}
+use Rattle.std.proofs.lemmas.Bool.{cases_lt, cases_Bool, leb-true}
 use Rattle.std.proofs.lemmas.Bool.Decides.{nat_tests}
 use Rattle.std.proofs.lemmas.Option.{slice_get-map, same_Some}
 use Rattle.cdb_grid.specs.Grid.{Place}
@@ -57,9 +57,6 @@ in_front os x y i lt r = record { there = refl; greatest = go }
     go zero z e = let same : x ≡ z = cc in inr (ap (λ (o : Offer). o.0) same, omega arith)
     go (suc j) z e = rest j z (r.greatest j z e)
 
-le_of_true : (m n : ℕ) → nat_le m n ≡ true → m ≤ n
-le_of_true m n h = grind (arith, nat_tests)
-
 lt_of_false : (m n : ℕ) → nat_le m n ≡ false → n < m
 lt_of_false m n h = grind (arith, nat_tests)
 
@@ -81,7 +78,7 @@ best_step None os (Some y) r = (suc r.0, record { there = r.1.there; greatest = 
     go zero z e = absurd (cc)
     go (suc j) z e = later y z j r.0 (r.1.greatest j z e)
 best_step (Some x) os (Some y) r = elim (cases_Bool (nat_le y.0 x.0)) [
-  | inl t ↦ rw t (suc r.0, behind os x y r.0 (le_of_true y.0 x.0 t) r.1)
+  | inl t ↦ rw t (suc r.0, behind os x y r.0 (leb-true y.0 x.0 t) r.1)
   | inr f ↦ rw f (zero, in_front os x y r.0 (lt_of_false y.0 x.0 f) r.1)
 ]
 
@@ -107,7 +104,7 @@ offered Elevation m h None x e =
     none_is e = cc
 offered Elevation m h (Some v) x e = elim (cases_Bool (nat_le m h)) [
   | inl t ↦ let same : (m, v) ≡ x = same_Some (m, v) x (rw t at e) in
-      (refl, le_of_true m h t, ap (λ (o : Offer). o.0) same, ap (λ (o : Offer). Some o.1) same)
+      (refl, leb-true m h t, ap (λ (o : Offer). o.0) same, ap (λ (o : Offer). Some o.1) same)
   | inr f ↦ absurd (none_is (rw f at e))
 ]
   where

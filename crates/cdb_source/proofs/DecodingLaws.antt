@@ -176,7 +176,7 @@ same_source a b eh ep =
     subst (λ ps. P b.head ps) ep moved (b.count, b.in_range)
 
 -- a source file has one source
-one_source : (a b : Source) → source_text a ≡ source_text b → a ≡ b
+pub one_source : (a b : Source) → source_text a ≡ source_text b → a ≡ b
 one_source a b e =
     let both = same_front a.head b.head (posts_text a.posts) (posts_text b.posts) e in
     let all_a : All (IsPost Elevation) a.posts = λ k d lt. any_number a.head.kind (get_or a.posts k d)
@@ -402,7 +402,7 @@ told_post bytes text head begins whole is (Bad place) told =
     wrong_post bytes text head told.0 place begins whole is told.1.0 told.1.1 told.1.2
 
 -- an error that a `?` hands on
-pub handed_on : {T : Type 0} (r : Result T DecodeError) (Says : DecodeError → Type 0) (e : DecodeError) → Says e
+pub handed_on : {T E : Type 0} (r : Result T E) (Says : E → Type 0) (e : E) → Says e
     → IsErrAnd r (λ y. y ≡ e) → IfErr r Says
 handed_on (Ok x) Says e said h = tt
 handed_on (Err y) Says e said h = subst Says (sym h) said

@@ -1,19 +1,14 @@
 -- The tiles that sources touch are at most their load.
-use Rattle.std.proofs.Common.{◌≡◌, ℕ, zero, suc, ◌+◌, ◌≤◌, List, [], ◌∷◌, ◌++◌, length, Option, None, Some, sym, ◌∙◌, ap, subst, length-append}
+use Rattle.std.proofs.Common.{◌≡◌, ℕ, zero, suc, ◌+◌, ◌≤◌, List, [], ◌∷◌, ◌++◌, length, Option, None, Some, sym, ◌∙◌, subst, length-append}
 use Rattle.std.specs.List.{Contains, slice_get}
 use Rattle.std.proofs.lemmas.List.Elements.{Contains-append_left, Contains-append_right}
+use Rattle.std.proofs.lemmas.Option.{same_Some}
+use Rattle.std.proofs.Common.{arith}
 use Rattle.cdb_grid.specs.declared.tile.Tile.{Tile}
 use Rattle.cdb_source.specs.declared.head.SourceHead.{SourceHead}
-use Rattle.cdb_source.specs.Reached.{Reaches, Reached, IsLoad}
+use Rattle.cdb_source.specs.Reached.{Reaches, Reached, IsLoad, IsReachCount}
 use Rattle.cdb_source.specs.Laws.{TouchedWithinLoad}
 use Rattle.cdb_source.proofs.OnceLaws.{length_le, ascending_once}
-
-some_is : {A : Type 0} (y z : A) → Some y ≡ Some z → y ≡ z
-some_is {A = A} y z e = ap value e
-  where
-    value : Option A → A
-    value None = y
-    value (Some x) = x
 
 -- A list of as many tiles as the load has each tile that is reached.
 pub record LoadTiles (heads : List SourceHead) (load : ℕ) : Type 0 where
@@ -47,7 +42,8 @@ load_tiles (head ∷ heads) load (count, rest, both) = of (load_tiles heads rest
         all : (t : Tile) (k : ℕ) (h : SourceHead) → slice_get (head ∷ heads) k ≡ Some h → Reaches h t
             → Contains ((both.0).tiles ++ others.tiles) t
         all t zero h there reaches = Contains-append_left (both.0).tiles others.tiles t
-            (((both.0).listed.exact t).1 (subst (λ (g : SourceHead). Reaches g t) (sym (some_is head h there)) reaches))
+            (((both.0).listed.exact t).1
+            (subst (λ (g : SourceHead). Reaches g t) (sym (same_Some head h there)) reaches))
         all t (suc k) h there reaches = Contains-append_right (both.0).tiles others.tiles t
             (others.all t (record { number = k; head = h; there = there; reaches = reaches }))
 
@@ -57,3 +53,19 @@ within_load heads load tiles is touched =
     let few : length tiles ≤ length all.tiles = length_le tiles all.tiles (ascending_once tiles touched.ordered)
     (λ t c. all.all t ((touched.exact t).0 c)) in
     subst (λ (n : ℕ). length tiles ≤ n) all.count few
+
+-- a list of heads has one load
+one_count : (head : SourceHead) (m n : ℕ) → IsReachCount head m → IsReachCount head n → m ≡ n
+one_count head m n a b =
+    let p : length a.tiles ≤ length b.tiles =
+    length_le a.tiles b.tiles a.listed.once (λ t c. (b.listed.exact t).1 ((a.listed.exact t).0 c)) in
+    let q : length b.tiles ≤ length a.tiles =
+    length_le b.tiles a.tiles b.listed.once (λ t c. (a.listed.exact t).1 ((b.listed.exact t).0 c)) in
+    let x = a.counted in let y = b.counted in omega arith
+
+pub one_load : (heads : List SourceHead) (m n : ℕ) → IsLoad heads m → IsLoad heads n → m ≡ n
+one_load [] m n a b = a ∙ sym b
+one_load (head ∷ heads) m n a b =
+    let e : a.0 ≡ b.0 = one_count head a.0 b.0 a.2.0 b.2.0 in
+    let f : a.1 ≡ b.1 = one_load heads a.1 b.1 a.2.1 b.2.1 in
+    let x : m ≡ a.0 + a.1 = a.2.2 in let y : n ≡ b.0 + b.1 = b.2.2 in omega arith

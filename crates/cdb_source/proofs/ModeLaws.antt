@@ -1,25 +1,16 @@
 -- The mode of a list: the most frequent value, and of equally frequent ones the smallest.
-use Rattle.std.proofs.Common.{◌≡◌, ℕ, zero, suc, ◌<◌, ◌≤◌, ℤ, ◌≤ℤ◌, Bool, true, false, cond, ◌&&◌, ◌||◌, nat_lt, nat_eq, List, [], ◌∷◌, Option, Some, None, refl, sym, ap, ◌∙◌, arith, inl, inr, ◌⊎◌, subst}
+use Rattle.std.proofs.Common.{◌≡◌, ℕ, zero, ◌<◌, ◌≤◌, ℤ, ◌≤ℤ◌, Bool, true, false, cond, ◌&&◌, ◌||◌, nat_lt, nat_eq, List, [], ◌∷◌, Option, Some, None, refl, sym, ap, ◌∙◌, arith, inl, inr, ◌⊎◌, subst}
 use Rattle.std.specs.Prelude.{int_lt, fold, Contains}
 use Rattle.std.proofs.lemmas.Int.{ints}
 use Rattle.std.proofs.lemmas.Bool.{cases_lt, cases_Bool}
 use Rattle.std.proofs.lemmas.Bool.Decides.{nat_tests}
 use Rattle.cdb_source.specs.Values.{count_of, oftener, mode}
 use Rattle.cdb_source.specs.Meaning.{IsMode}
+use Rattle.cdb_source.proofs.Lists.{not_in_none, contains_later, contains_either}
 
 -- members of a list with one value more in front
 here : (x y : ℤ) (xs : List ℤ) → y ≡ x → Contains (x ∷ xs) y
 here x y xs e = (zero, omega arith, sym e)
-
-there : (x y : ℤ) (xs : List ℤ) → Contains xs y → Contains (x ∷ xs) y
-there x y xs m = let k = m.1 in (suc m.0, omega arith, m.2)
-
-either : (x y : ℤ) (xs : List ℤ) → Contains (x ∷ xs) y → (x ≡ y) ⊎ Contains xs y
-either x y xs (zero, k, e) = inl e
-either x y xs (suc i, k, e) = inr (i, omega arith, e)
-
-nowhere : (y : ℤ) → Contains [] y → ⊥
-nowhere y m = let k = m.1 in omega arith
 
 module _ (all : List ℤ) where
   -- v is more frequent than w, or as frequent and not greater
@@ -87,7 +78,7 @@ module _ (all : List ℤ) where
       elim rec [
         | inl e ↦ elim (one_of v w)
             [ inl p ↦ inl (e ∙ p) | inr q ↦ inr (here w (fold (oftener all) (oftener all v w) values) values (e ∙ q)) ]
-        | inr m ↦ inr (there w (fold (oftener all) (oftener all v w) values) values m)
+        | inr m ↦ inr (contains_later w values (fold (oftener all) (oftener all v w) values) m)
       ]
 
   fold_first : (v : ℤ) (values : List ℤ) → Beats (fold (oftener all) v values) v
@@ -97,10 +88,10 @@ module _ (all : List ℤ) where
       beats_through (fold (oftener all) (oftener all v w) values) (oftener all v w) v rec (beats_first v w)
 
   fold_rest : (v : ℤ) (values : List ℤ) (y : ℤ) → Contains values y → Beats (fold (oftener all) v values) y
-  fold_rest v [] y m = absurd (nowhere y m)
+  fold_rest v [] y m = absurd (not_in_none y m)
   fold_rest v (w ∷ values) y m =
       let rec = fold_rest (oftener all v w) values y in
-      elim (either w y values m) [
+      elim (contains_either w values y m) [
         | inl e ↦ beats_through (fold (oftener all) (oftener all v w) values) (oftener all v w) y
             (fold_first (oftener all v w) values) (rw (← e) (beats_second v w))
         | inr k ↦ rec k
@@ -115,13 +106,13 @@ module _ (all : List ℤ) where
 -- the mode is the most frequent value, and of equally frequent ones the smallest
 pub mode_is : (values : List ℤ) → IsMode values (mode values)
 unfolding mode
-mode_is [] = nowhere
+mode_is [] = not_in_none
 mode_is (v ∷ values) = record {
   there = elim (fold_one (v ∷ values) v values) [
     | inl e ↦ here v (fold (oftener (v ∷ values)) v values) values e
-    | inr m ↦ there v (fold (oftener (v ∷ values)) v values) values m
+    | inr m ↦ contains_later v values (fold (oftener (v ∷ values)) v values) m
   ];
-  greatest = λ w m. elim (either v w values m) [
+  greatest = λ w m. elim (contains_either v values w m) [
     | inl e ↦ subst (λ (z : ℤ). Beats (v ∷ values) (fold (oftener (v ∷ values)) v values) z) e
         (fold_first (v ∷ values) v values)
     | inr k ↦ fold_rest (v ∷ values) v values w k

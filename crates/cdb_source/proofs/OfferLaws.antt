@@ -1,7 +1,7 @@
 -- Laws of offers: which one stands of two lists, and of one height more.
 use Rattle.std.proofs.Common.{◌≡◌, ℕ, suc, ◌<◌, ◌≤◌, Bool, true, false, cond, ◌&&◌, nat_le, nat_eq, List, [], ◌∷◌, ◌++◌, Option, Some, None, IfSome, refl, sym, ap, ◌∙◌, arith, inl, inr}
 use Rattle.std.specs.Option.{option_map, option_or}
-use Rattle.std.proofs.lemmas.Bool.{cases_lt}
+use Rattle.std.proofs.lemmas.Bool.{cases_lt, le-leb, lt-leb}
 use Rattle.std.proofs.lemmas.Bool.Decides.{nat_tests}
 use Rattle.cdb_source.specs.Offers.{over, newest}
 
@@ -34,12 +34,6 @@ IsUpTo {X} h o = IfSome {T = ℕ × X} o (λ x. x.0 ≤ h)
 le_itself : (h : ℕ) → nat_le h h ≡ true
 le_itself h = grind (arith, nat_tests)
 
-le_true : (m n : ℕ) → m ≤ n → nat_le m n ≡ true
-le_true m n h = grind (arith, nat_tests)
-
-le_false : (m n : ℕ) → n < m → nat_le m n ≡ false
-le_false m n h = grind (arith, nat_tests)
-
 eq_true : (m n : ℕ) → m ≡ n → nat_eq m n ≡ true
 eq_true m n h = grind (arith, nat_tests)
 
@@ -63,9 +57,9 @@ over_step h None None (Some v) None p q = refl
 over_step h None None None (Some w) p q = refl
 over_step h None None (Some v) (Some w) p q = rw (le_itself (suc h)) refl
 over_step h None (Some y) None n p q = refl
-over_step h None (Some y) (Some v) n p q = let k : y.0 ≤ suc h = omega (arith, q) in rw (le_true y.0 (suc h) k) refl
+over_step h None (Some y) (Some v) n p q = let k : y.0 ≤ suc h = omega (arith, q) in rw (le-leb y.0 (suc h) k) refl
 over_step h (Some x) None o None p q = refl
-over_step h (Some x) None o (Some w) p q = let k : x.0 < suc h = omega (arith, p) in rw (le_false (suc h) x.0 k) refl
+over_step h (Some x) None o (Some w) p q = let k : x.0 < suc h = omega (arith, p) in rw (lt-leb (suc h) x.0 k) refl
 over_step {X} h (Some x) (Some y) o n p q =
     elim (nat_le y.0 x.0) as
     (λ b. cond b (Some y) (Some x) ≡ option_or (cond b (Some y) (Some x)) (tagged (suc h) (option_or n o)))
@@ -84,20 +78,20 @@ pub offer_step : {X : Type 0} (k : Bool) (m h : ℕ) (o : Option X)
 offer_step false m h o = refl
 offer_step true m h o = elim (cases_lt (suc h) m) [
   | inl above ↦
-      let e : nat_le m (suc h) ≡ false = le_false m (suc h) above in
-      let f : nat_le m h ≡ false = le_false m h (omega arith) in
+      let e : nat_le m (suc h) ≡ false = lt-leb m (suc h) above in
+      let f : nat_le m h ≡ false = lt-leb m h (omega arith) in
       let g : nat_eq m (suc h) ≡ false = eq_false m (suc h) (omega arith) in
       rw (e, f, g) refl
   | inr up_to ↦ elim (cases_lt h m) [
     | inl exact ↦
         let same : m ≡ suc h = omega arith in
-        let f : nat_le m h ≡ false = le_false m h exact in
-        let e : nat_le m (suc h) ≡ true = le_true m (suc h) up_to in
+        let f : nat_le m h ≡ false = lt-leb m h exact in
+        let e : nat_le m (suc h) ≡ true = le-leb m (suc h) up_to in
         let g : nat_eq m (suc h) ≡ true = eq_true m (suc h) same in
         rw (e, f, g) (ap (λ n. option_map (λ v. (n, v)) o) same)
     | inr below ↦
-        let e : nat_le m (suc h) ≡ true = le_true m (suc h) up_to in
-        let f : nat_le m h ≡ true = le_true m h below in
+        let e : nat_le m (suc h) ≡ true = le-leb m (suc h) up_to in
+        let f : nat_le m h ≡ true = le-leb m h below in
         let g : nat_eq m (suc h) ≡ false = eq_false m (suc h) (omega arith) in
         rw (e, f, g) (or_tagged m h o)
   ]
@@ -109,6 +103,6 @@ offer_up_to false m h o = tt
 offer_up_to {X} true m h None = elim (nat_le m h) as (λ b. IfSome {T = ℕ × X} (cond b None None) (λ x. x.0 ≤ h))
     [ true ↦ tt | false ↦ tt ]
 offer_up_to true m h (Some v) = elim (cases_lt h m) [
-  | inl above ↦ rw (le_false m h above) tt
-  | inr below ↦ rw (le_true m h below) below
+  | inl above ↦ rw (lt-leb m h above) tt
+  | inr below ↦ rw (le-leb m h below) below
 ]

@@ -2,7 +2,7 @@
 use Rattle.std.proofs.Common.{◌≡◌, ℕ, zero, suc, ◌<◌, ◌≤◌, ◌⊎◌, inl, inr, List, [], ◌∷◌, ◌++◌, length, get_or, Option, Some, None, refl, sym, ◌∙◌, ap, subst, arith, lit<}
 use Rattle.std.specs.List.{Contains, remove, slice_get}
 use Rattle.std.specs.List.Sorted.{IsPermutation}
-use Rattle.std.proofs.lemmas.Option.{slice_get_within, get_or_from_slice_get, slice_get-get_or}
+use Rattle.std.proofs.lemmas.Option.{slice_get_within, get_or_from_slice_get}
 use Rattle.std.proofs.lemmas.List.Elements.{Contains-get_or, Contains-append_left, Contains-append_right, Contains-append_cases}
 use Rattle.std.proofs.lemmas.List.Sorted.{IsPermutation-remove, Contains-permutation, length_permutation}
 use Rattle.std.specs.Prelude.{AllPairs}
@@ -12,6 +12,7 @@ use Rattle.std.proofs.lemmas.Option.{slice_get_cases, slice_get_past}
 use Rattle.cdb_grid.specs.Order.{tile_cmp}
 use Rattle.cdb_grid.specs.OrderLaws.{tile_cmp-total}
 use Rattle.cdb_grid.specs.declared.tile.Tile.{Tile}
+use Rattle.cdb_source.proofs.Lists.{at_contains}
 
 -- no tile stands twice
 abbrev pub Once : List Tile → Type 0
@@ -20,12 +21,6 @@ Once xs = (i j : ℕ) → i < length xs → slice_get xs i ≡ slice_get xs j �
 pub contains_at : (xs : List Tile) (k : ℕ) (x : Tile) → slice_get xs k ≡ Some x → Contains xs x
 contains_at xs k x e = subst (λ y. Contains xs y) (get_or_from_slice_get xs k x x e)
     (Contains-get_or xs k x (slice_get_within xs k x e))
-
-pub at_contains : (xs : List Tile) (x : Tile) → Contains xs x → (k : ℕ) × (slice_get xs k ≡ Some x)
-at_contains xs x c = (c.0, slice_get-get_or xs c.0 x c.1 ∙ ap Some c.2)
-
-pub not_in_none : (x : Tile) → Contains [] x → ⊥
-not_in_none x c = let lt : c.0 < 0 = c.1 in omega arith
 
 pub in_one : (x y : Tile) → Contains (x ∷ []) y → x ≡ y
 in_one x y c = at c.0 c.1 c.2
@@ -82,7 +77,7 @@ length_le (x ∷ xs) ys o into =
     left zs t h (inr i) = i
 
 -- a tile isn't before itself
-irreflexive : (t : Tile) → tile_cmp t t ≡ Less → ⊥
+pub irreflexive : (t : Tile) → tile_cmp t t ≡ Less → ⊥
 irreflexive t e = let a = tile_cmp-total.antisymm t t in cc
 
 -- so no tile of an ascending list stands twice

@@ -27,10 +27,7 @@ use Rattle.cdb_source.proofs.OfferLaws.{over_none, or_none}
 use Rattle.cdb_source.proofs.BestLaws.{comes_from}
 use Rattle.cdb_source.proofs.SampleLaws.{in_box_of_sample}
 use Rattle.cdb_source.proofs.MaterialLaws.{of_none}
-
-not_some : {X : Type 0} (o : Option X) → ((x : X) → o ≡ Some x → ⊥) → o ≡ None
-not_some None h = refl
-not_some (Some x) h = absurd (h x refl)
+use Rattle.cdb_source.proofs.Lists.{not_some}
 
 -- what a list of offers gives doesn't see members that offer nothing
 module _ {X : Type 0} (Matters : Source → Type 0) (of : Source → Option X)
@@ -130,7 +127,7 @@ no_own t k c family fine corner inside s unreached = not_some (own Material k (c
 abbrev Within : Tile → ℕ → Place → Type 0
 Within t h c = (q : Place) → IsInCell h c q → IsInTile t q
 
-itself : (h : ℕ) (c : Place) → IsInCell h c c
+pub itself : (h : ℕ) (c : Place) → IsInCell h c c
 itself h c =
     let p : 0 < step h = step-pos h in
     let q : 0 < step_east h c = mul-pos (width_of-pos c) p in

@@ -1,9 +1,9 @@
 -- The box of a source, and what it has there.
-use Rattle.std.proofs.Common.{◌≡◌, ℕ, zero, suc, ◌+◌, ◌*◌, ◌/◌, ◌<◌, ◌≤◌, ℤ, pos, negsuc, ◌+ℤ◌, ◌*ℤ◌, ◌≤ℤ◌, ◌<ℤ◌, Bool, true, false, ◌&&◌, nat_le, Some, None, refl, arith, inl, inr}
+use Rattle.std.proofs.Common.{◌≡◌, ℕ, zero, suc, ◌+◌, ◌*◌, ◌/◌, ◌<◌, ◌≤◌, ℤ, pos, negsuc, ◌+ℤ◌, ◌*ℤ◌, ◌≤ℤ◌, ◌<ℤ◌, true, nat_le, Some, None, refl, arith, inl, inr}
 use lib.IntN.{neg_ℤ}
 use Rattle.std.specs.Int.{int_div_euclid}
 use Rattle.std.proofs.lemmas.Int.{ints}
-use Rattle.std.proofs.lemmas.Bool.{cases_Bool}
+use Rattle.std.proofs.lemmas.Bool.{cases_Bool, and_parts, leb-true}
 use Rattle.std.proofs.lemmas.Bool.Decides.{nat_tests}
 use Rattle.cdb_grid.specs.Grid.{Place}
 use Rattle.cdb_source.specs.declared.kind.Kind.{Kind}
@@ -16,24 +16,17 @@ before : (kind : Kind) (x edge : ℕ) → is_before kind x edge ≡ true → IsB
 before Elevation x edge t = grind (arith, nat_tests)
 before Material x edge t = grind (arith, nat_tests)
 
-le_of_true : (m n : ℕ) → nat_le m n ≡ true → m ≤ n
-le_of_true m n t = grind (arith, nat_tests)
-
-both : (a b : Bool) → (a && b) ≡ true → (a ≡ true) × (b ≡ true)
-both true b e = (refl, e)
-both false b e = absurd (cc)
-
 -- the test of the box is the box
 pub in_box : (head : SourceHead) (p : Place) → is_in_box head p ≡ true → IsInBox head p
 in_box head p t =
-    let e = both _ (is_before head.kind p.east ((corner_of head).east + box_width head)) t in
-    let w = both _ (nat_le (corner_of head).east p.east) e.0 in
-    let s = both (nat_le (corner_of head).north p.north)
+    let e = and_parts _ (is_before head.kind p.east ((corner_of head).east + box_width head)) t in
+    let w = and_parts _ (nat_le (corner_of head).east p.east) e.0 in
+    let s = and_parts (nat_le (corner_of head).north p.north)
     (is_before head.kind p.north ((corner_of head).north + box_height head)) w.0 in
     record {
-      south = le_of_true (corner_of head).north p.north s.0;
+      south = leb-true (corner_of head).north p.north s.0;
       north = before head.kind p.north ((corner_of head).north + box_height head) s.1;
-      west = le_of_true (corner_of head).east p.east w.1;
+      west = leb-true (corner_of head).east p.east w.1;
       east = before head.kind p.east ((corner_of head).east + box_width head) e.1;
     }
 

@@ -1,22 +1,9 @@
 -- A row of a coarser frame, by the rows of a file that lie under it.
 use Rattle.std.proofs.Common.{◌≡◌, ℕ, ◌+◌, ◌-◌, ◌*◌, ◌<◌, ◌≤◌, ℤ, List, length, refl, ap, ap₂, sym, ◌∙◌, arith}
-use Rattle.std.proofs.lemmas.Int.{to_z-of_z}
-use mir.Syntax.{w16}
-use mir.Val.{SFits, to_z, of_z}
 use Rattle.cdb_grid.specs.Frames.{number_in, number_at, IsRowChanged, four_under}
 use Rattle.cdb_tiff_write.specs.Samples.{sample_in, frame_in}
 use Rattle.cdb_tiff_write.specs.inside.Finer.{four_in_rows}
 use Rattle.cdb_tiff_write.proofs.FrameIn.{frame_number}
-
--- the numbers as the program passes them
-pub passed : (f : ℤ → ℤ → ℤ → ℤ → ℤ → ℤ) (r a b c d e p q s t u : ℤ)
-    → SFits w16 a → SFits w16 b → SFits w16 c → SFits w16 d → SFits w16 e
-    → r ≡ f (to_z w16 (of_z w16 a)) (to_z w16 (of_z w16 b)) (to_z w16 (of_z w16 c)) (to_z w16 (of_z w16 d))
-    (to_z w16 (of_z w16 e))
-    → a ≡ p → b ≡ q → c ≡ s → d ≡ t → e ≡ u → r ≡ f p q s t u
-passed f r a b c d e p q s t u fa fb fc fd fe is ea eb ec ed ee =
-    is ∙ rw (to_z-of_z w16 a fa, to_z-of_z w16 b fb, to_z-of_z w16 c fc, to_z-of_z w16 d fd, to_z-of_z w16 e fe)
-    (rw (ea, eb, ec, ed, ee) refl)
 
 -- a row is changed by each rule that has the same numbers there
 row_same : (f g : ℕ → ℤ → ℤ) (n : ℕ) (old new : List ℤ) → IsRowChanged f n old new

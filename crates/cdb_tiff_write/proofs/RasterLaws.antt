@@ -25,7 +25,7 @@ use Rattle.cdb_cut.specs.OneTile.{IsFrameOf}
 use Rattle.cdb_tiff_write.proofs.MaterialPosts.{number_post}
 
 -- a list by the number at each index
-by_index : (f : ℕ → ℤ) (n : ℕ) (xs : List ℤ) → length xs ≡ n → ((k : ℕ) (d : ℤ) → k < n → get_or xs k d ≡ f k)
+pub by_index : (f : ℕ → ℤ) (n : ℕ) (xs : List ℤ) → length xs ≡ n → ((k : ℕ) (d : ℤ) → k < n → get_or xs k d ≡ f k)
     → xs ≡ map f (range_with_len 0 n)
 by_index f n xs len each =
     same_lists xs (map f (range_with_len 0 n)) (len ∙ sym (length-map-range_with_len f 0 n))

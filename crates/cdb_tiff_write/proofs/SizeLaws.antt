@@ -1,5 +1,5 @@
 -- The length of a tile's file.
-use Rattle.std.proofs.Common.{◌≡◌, ℕ, zero, suc, ◌+◌, ◌*◌, ◌/◌, ◌≤◌, ℤ, List, [], ◌∷◌, length, length-append, mul_assoc, refl, sym, ap, ◌∙◌, arith}
+use Rattle.std.proofs.Common.{◌≡◌, ℕ, ◌+◌, ◌*◌, ◌/◌, ◌≤◌, ℤ, List, [], ◌∷◌, length, length-append, mul_assoc, refl, sym, ap, ◌∙◌, arith}
 use Rattle.std.specs.Int.{w8, cast_unsigned}
 use Rattle.std.proofs.lemmas.List.{length-map}
 use Rattle.std.proofs.lemmas.List.FromFn.{length-map-range_with_len}
@@ -10,13 +10,13 @@ use Rattle.cdb_grid.specs.declared.tile.Tile.{Tile}
 use Rattle.cdb_source.specs.Posts.{coded}
 use Rattle.cdb_source.specs.Reached.{kind_of, tile_value}
 use Rattle.cdb_source.specs.declared.source.Source.{Source}
-use Rattle.cdb_model.specs.Text.{last_first}
 use Rattle.cdb_model.specs.TileFile.{bits_of, family_row, head_bytes, row_bytes, small_row_bytes, row_numbers, raster_bytes, tile_bytes}
 use Rattle.std.proofs.lemmas.Nat.{mul-le}
 use Rattle.std.proofs.Math.Pow.{pow_mono}
 use Rattle.cdb_source.specs.declared.kind.Kind.TheVariants.{Elevation}
 use Rattle.cdb_tiff_write.specs.Rasters.{tile_size}
 use Rattle.cdb_tiff_write.specs.SizeLaws.{TilesAreSized}
+use Rattle.cdb_tiff_write.proofs.Written.{rows_length}
 
 row_long : (posts : List ℤ) → length (row_bytes posts) ≡ length posts * 2
 unfolding row_bytes
@@ -32,12 +32,6 @@ family_row_long Elev posts = row_long posts
 family_row_long Low posts = row_long posts
 family_row_long High posts = row_long posts
 family_row_long Mat posts = small_row_long posts
-
-pieces_long : {A : Type 0} (n size : ℕ) (piece : ℕ → List A) → ((k : ℕ) → length (piece k) ≡ size)
-    → length (last_first n piece) ≡ n * size
-pieces_long zero size piece each = omega arith
-pieces_long (suc n) size piece each =
-    omega (arith, length-append (piece n) (last_first n piece), each n, pieces_long n size piece each)
 
 row_count : (ss : List Source) (t : Tile) (row : ℕ) → length (row_numbers ss t row) ≡ tile_side t
 row_count ss t row = length-map-range_with_len (λ col. coded (kind_of t.family) (tile_value ss t row col))
@@ -55,7 +49,7 @@ unfolding tile_bytes
 tile_bytes_long ss t =
     let n = tile_side t in let b = bits_of t.family / 8 in
     let rows : length (raster_bytes ss t) ≡ n * (n * b) =
-    pieces_long n (n * b) (λ row. family_row t.family (row_numbers ss t row))
+    rows_length (λ row. family_row t.family (row_numbers ss t row)) (n * b) n
     (λ row. family_row_long t.family (row_numbers ss t row) ∙ ap (λ k. k * b) (row_count ss t row)) in
     length-append (head_bytes n (bits_of t.family)) (raster_bytes ss t)
     ∙ ap (λ k. k + length (raster_bytes ss t)) (head_of_family t.family n)

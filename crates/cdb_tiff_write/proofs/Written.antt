@@ -57,7 +57,7 @@ same_file : (t : Tile) (ss : List Source) → kind_of t.family ≡ Elevation
 unfolding file.tile_bytes
 same_file t ss e = by_family t.family (tile_side t) (row_numbers ss t) e
 
-pub rows_length : (rows : ℕ → List ℤ) (side n : ℕ) → ((r : ℕ) → length (rows r) ≡ side)
+pub rows_length : {A : Type 0} (rows : ℕ → List A) (side n : ℕ) → ((r : ℕ) → length (rows r) ≡ side)
     → length (last_first n rows) ≡ n * side
 rows_length rows side zero e = omega arith
 rows_length rows side (suc n) e = let rest = rows_length rows side n e in

@@ -7,6 +7,7 @@ use Rattle.cdb_grid.specs.declared.family.Family.{Family}
 use Rattle.cdb_grid.specs.declared.tile.Tile.{Tile}
 use Rattle.cdb_source.specs.declared.head.SourceHead.{SourceHead}
 use Rattle.cdb_source.specs.Reached.{Reaches, Reached}
+use Rattle.cdb_source.proofs.Lists.{get-left}
 use Rattle.cdb_touch.specs.declared.axis.Run.{Run}
 use Rattle.cdb_touch.specs.inside.Numbers.{row_number, column_number, IsNumbered, IsInRow, IsInRectangle}
 use Rattle.cdb_touch.specs.inside.Touched.{AddsTiles}
@@ -210,12 +211,6 @@ pub empty_rectangle : (f : Family) (h : ℕ) (rows columns : Run) (t : Tile) →
     → IsInRectangle f h rows columns t → ⊥
 empty_rectangle f h rows columns t e i = let a = i.column_from in let b = i.column_below in omega arith
 
--- one source more
-at_left : (xs ys : List SourceHead) (k : ℕ) (h : SourceHead) → slice_get xs k ≡ Some h → slice_get (xs ++ ys) k ≡ Some h
-at_left [] ys k h e = absurd (cc)
-at_left (x ∷ xs) ys zero h e = e
-at_left (x ∷ xs) ys (suc k) h e = at_left xs ys k h e
-
 at_end : (xs : List SourceHead) (x : SourceHead) → slice_get (xs ++ x ∷ []) (length xs) ≡ Some x
 at_end [] x = refl
 at_end (y ∷ ys) x = at_end ys x
@@ -235,7 +230,7 @@ one_source_more xs x t = (put, λ r. split r (at_cases xs x r.number r.head r.th
     put (inl r) = record {
       number = r.number;
       head = r.head;
-      there = at_left xs (x ∷ []) r.number r.head r.there;
+      there = get-left xs (x ∷ []) r.number r.head r.there;
       reaches = r.reaches;
     }
     put (inr r) = record { number = length xs; head = x; there = at_end xs x; reaches = r }
@@ -247,11 +242,6 @@ one_source_more xs x t = (put, λ r. split r (at_cases xs x r.number r.head r.th
 
 pub no_source : (t : Tile) → Reached [] t → ⊥
 no_source t r = let e : None ≡ Some r.head = r.there in cc
-
--- an answer that is there, by a weaker fact
-pub on_ok : {T E : Type 0} (r : Result T E) (P Q : Type 0) → (P → Q) → OnOk r P → OnOk r Q
-on_ok (Ok x) P Q f p = f p
-on_ok (Err e) P Q f p = p
 
 pub ok_fact : {T E : Type 0} (r : Result T E) (P : Type 0) → is_ok r ≡ true → OnOk r P → P
 ok_fact (Ok x) P e p = p

@@ -1,11 +1,12 @@
 -- Laws of how many tiles a set has.
-use Rattle.std.proofs.Common.{◌≡◌, ℕ, ◌+◌, ◌≤◌, ◌↔◌, ◌⊎◌, inl, inr, List, [], ◌∷◌, ◌++◌, length, refl, sym, ◌∙◌, subst, arith, lit<, length-append}
+use Rattle.std.proofs.Common.{◌≡◌, ℕ, ◌+◌, ◌≤◌, ◌↔◌, ◌⊎◌, inl, inr, List, [], ◌∷◌, ◌++◌, length, refl, subst, arith, lit<, length-append}
 use Rattle.std.specs.List.{Contains}
 use Rattle.std.proofs.lemmas.List.Elements.{Contains-append_left, Contains-append_right, Contains-append_cases}
 use Rattle.cdb_grid.specs.declared.tile.Tile.{Tile}
 use Rattle.cdb_source.specs.declared.head.SourceHead.{SourceHead}
 use Rattle.cdb_source.specs.Reached.{Reaches, IsReachCount, IsLoad}
-use Rattle.cdb_source.proofs.OnceLaws.{not_in_none, in_one, once_none, once_cons, once_append, length_le}
+use Rattle.cdb_source.proofs.OnceLaws.{in_one, once_none, once_cons, once_append, length_le}
+use Rattle.cdb_source.proofs.Lists.{not_in_none}
 use Rattle.cdb_touch.specs.inside.Count.{HasCount}
 
 -- a set has one count
@@ -75,14 +76,6 @@ reach_count head n h = record { tiles = h.tiles; listed = h.listed; counted = h.
 
 pub count_of_reach : (head : SourceHead) (n : ℕ) → IsReachCount head n → HasCount (Reaches head) n
 count_of_reach head n h = record { tiles = h.tiles; listed = h.listed; counted = h.counted }
-
--- a list of sources has one load
-pub IsLoad-only : (heads : List SourceHead) (m n : ℕ) → IsLoad heads m → IsLoad heads n → m ≡ n
-IsLoad-only [] m n a b = a ∙ sym b
-IsLoad-only (head ∷ heads) m n a b =
-    let e : a.0 ≡ b.0 = HasCount-only a.0 b.0 (count_of_reach head a.0 a.2.0) (count_of_reach head b.0 b.2.0) in
-    let f : a.1 ≡ b.1 = IsLoad-only heads a.1 b.1 a.2.1 b.2.1 in
-    let x : m ≡ a.0 + a.1 = a.2.2 in let y : n ≡ b.0 + b.1 = b.2.2 in omega arith
 
 -- the load of one source more
 pub IsLoad-push : (heads : List SourceHead) (head : SourceHead) (m n : ℕ) → IsLoad heads m → IsReachCount head n

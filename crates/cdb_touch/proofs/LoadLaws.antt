@@ -10,13 +10,13 @@ use Rattle.cdb_grid.specs.declared.family.Family.{Family}
 use Rattle.cdb_grid.specs.declared.family.Family.TheVariants.{Elev, Low, High, Mat}
 use Rattle.cdb_grid.specs.declared.tile.Tile.{Tile}
 use Rattle.cdb_grid.proofs.TileLaws.{tile_height-most}
+use Rattle.cdb_grid.proofs.UnitLaws.{tiles_most}
 use Rattle.cdb_source.specs.declared.kind.Kind.TheVariants.{Elevation, Material}
 use Rattle.cdb_source.specs.declared.head.SourceHead.{SourceHead}
 use Rattle.cdb_source.specs.Reached.{kind_of, source_height, Reaches}
 use Rattle.cdb_touch.specs.inside.Count.{HasCount}
 use Rattle.cdb_touch.specs.inside.Reach.{IsOfFamily, IsOfHeight, IsOfRow}
 use Rattle.cdb_touch.proofs.Below.{IsBelowHeight, IsBelowRow}
-use Rattle.cdb_touch.proofs.NumberLaws.{tiles_most}
 use Rattle.cdb_touch.proofs.CountLaws.{HasCount-none, HasCount-iff, HasCount-union, HasCount-same}
 
 -- row by row

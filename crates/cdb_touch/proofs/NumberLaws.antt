@@ -4,7 +4,6 @@ use Prim.Native.Nat.{◌∣◌}
 use Rattle.std.proofs.lemmas.Bool.{cases_lt}
 use Rattle.std.proofs.lemmas.Nat.{one_shl, mul-add-lt}
 use Rattle.std.proofs.lemmas.Nat.Gcd.{dvd_of_mod-eq-zero}
-use Rattle.std.proofs.Math.Pow.{pow_mono}
 use Rattle.std.proofs.Math.Nat.{mul-div_cancel, div-mul_cancel, mul-le-mul_right, mul_comm}
 use Rattle.cdb_grid.specs.Units.{degree, step, tiles_of, side_of, width_at, row_of, column_of}
 use Rattle.cdb_grid.specs.Grid.{Place, width_of}
@@ -17,9 +16,6 @@ use Rattle.cdb_touch.specs.inside.Numbers.{tile_width, row_number, column_number
 
 pub tiles_shifted : (h : ℕ) → (1 * 2 ^ (24 - h)) % 2 ^ 64 ≡ tiles_of h
 tiles_shifted h = let lt : 24 - h < 64 = omega arith in one_shl (24 - h) 64 lt
-
-pub tiles_most : (h : ℕ) → 1 ≤ h → tiles_of h ≤ 8388608
-tiles_most h le = let m : 24 - h ≤ 23 = omega arith in pow_mono {j = 23} m
 
 -- the tiles of a height along a side of a geocell share out its degree
 pub degree-tiles : (h : ℕ) → h ≤ 34 → degree / tiles_of h ≡ side_of h * step h

@@ -2,9 +2,10 @@
 use Rattle.std.proofs.Common.{◌≡◌, ℕ, zero, suc, ◌+◌, ◌<◌, ◌≤◌, List, [], ◌∷◌, map, All, length, get_or, take, Some, sym, ap, ◌∙◌, subst}
 use Rattle.std.specs.Prelude.{slice_get}
 use Rattle.std.specs.Option.{option_map}
-use Rattle.std.proofs.lemmas.Option.{slice_get-map, slice_get-get_or}
+use Rattle.std.proofs.lemmas.Option.{slice_get-map, slice_get_read}
 use Rattle.std.proofs.lemmas.List.{take_all}
 use Rattle.std.proofs.lemmas.List.Elements.{All-head, All-tail, All-more}
+use Rattle.std.proofs.Common.{refl}
 use Rattle.cdb_grid.specs.declared.tile.Tile.{Tile}
 use Rattle.cdb_source.specs.declared.head.SourceHead.{SourceHead}
 use Rattle.cdb_source.specs.declared.source.Source.{Source}
@@ -18,16 +19,13 @@ none_more P ss i s lt is all here = All-more P ss i s lt all (subst P is here)
 pub none_of_all : (P : Source → Type 0) (ss : List Source) (i : ℕ) → length ss ≤ i → All P (take i ss) → All P ss
 none_of_all P ss i le all = subst (All P) (take_all i ss le) all
 
-read_at : (ss : List Source) (i : ℕ) (s : Source) → i < length ss → s ≡ get_or ss i s → slice_get ss i ≡ Some s
-read_at ss i s lt is = slice_get-get_or ss i s lt ∙ ap (λ (x : Source). Some x) (sym is)
-
 pub reached_at : (t : Tile) (ss : List Source) (i : ℕ) (s : Source) → i < length ss → s ≡ get_or ss i s
     → Reaches s.head t → Reached (map (λ (source : Source). source.head) ss) t
 reached_at t ss i s lt is r = record {
   number = i;
   head = s.head;
   there = slice_get-map (λ (source : Source). source.head) ss i ∙ ap (option_map (λ (source : Source). source.head))
-      (read_at ss i s lt is);
+      (slice_get_read ss (length ss) i s refl lt is);
   reaches = r;
 }
 

@@ -19,7 +19,7 @@ pub(crate) fn level(height: u32) -> Level
 }
 
 /// The tiles of a height along a side of a geocell.
-#[tactic(auto, using(crate::proofs::NumberLaws::tiles_shifted, crate::proofs::NumberLaws::tiles_most))]
+#[tactic(auto, using(crate::proofs::NumberLaws::tiles_shifted, cdb_grid::proofs::UnitLaws::tiles_most))]
 pub(crate) fn tiles(height: u32) -> u64
     requires { 1 ≤ height }
     ensures value { result ≡ tiles_of height }

@@ -5,7 +5,8 @@ use Rattle.std.specs.List.{starts_with}
 use Rattle.cdb_model.specs.Names.{Text}
 use Rattle.cdb_names.specs.declared.folder.DatasetFolder.{DatasetFolder}
 use Rattle.cdb_names.specs.declared.folder.DatasetFolder.TheVariants.{Elevation, MinMaxElevation, RmTexture}
-use Rattle.cdb_names.specs.Fields.{after, fine_of, lat_at, lon_at, numbered_at, two_at, ◌>>=◌}
+use Rattle.cdb_names.specs.Fields.{after, fine_of, lat_at, lon_at, numbered_at, two_at}
+use Rattle.cdb_model.specs.Words.{◌>>=◌}
 use Rattle.cdb_model.specs.declared.limits.TheConstants.{MOST_VERSIONS}
 
 -- a field with a slash after it

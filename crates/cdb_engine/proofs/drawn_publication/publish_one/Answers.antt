@@ -12,9 +12,10 @@ use Rattle.cdb_source.specs.declared.source.Source.{Source}
 use Rattle.cdb_engine.specs.Stays.{Stays}
 use Rattle.cdb_engine.proofs.StayLaws.{stays_shows, stays_alike}
 use Rattle.cdb_generate.proofs.LoadLaws.{drawn_fits}
-use Rattle.cdb_engine.proofs.PublishLaws.{none_mapped, not_yet, pending_only, pending_here, refused_begin, begun}
+use Rattle.cdb_engine.proofs.PublishLaws.{not_yet, pending_only, pending_here, refused_begin, begun}
 use Rattle.cdb_engine.proofs.PublishLaws.{published, rests, failed_finish, failed_sum, sum_at, reached_at, all_done}
 use Rattle.cdb_engine.proofs.drawn_publication.publish_one.Goals as goal
+use Rattle.cdb_tiff_read.proofs.Rows.{map_none}
 
 pub returns-in_default-clause-publishes : goal.returns-in_default-clause-publishes
 returns-in_default-clause-publishes g c = λ w origin s stays at.
@@ -25,10 +26,10 @@ returns-in_default-touched_tiles-clause-publishes g c = λ w origin s stays at.
     not_yet w s c.args.state.now at _ s _ refl refl at.going at.halted stays
 
 pub submit_all-requires-clause-running : goal.submit_all-requires-clause-running
-submit_all-requires-clause-running g c = none_mapped _ _ _ c.args.engine.now.halted c.requires.rest.halted
+submit_all-requires-clause-running g c = map_none _ c.args.engine.now.halted c.requires.rest.halted
 
 pub submit_all-requires-clause-idle : goal.submit_all-requires-clause-idle
-submit_all-requires-clause-idle g c = none_mapped _ _ _ c.args.engine.now.work c.requires.rest.going
+submit_all-requires-clause-idle g c = map_none _ c.args.engine.now.work c.requires.rest.going
 
 pub submit_all-requires-clause-room : goal.submit_all-requires-clause-room
 submit_all-requires-clause-room g c =

@@ -5,9 +5,10 @@ use Rattle.cdb_source.specs.declared.head.SourceHead.{SourceHead}
 use Rattle.cdb_source.specs.Posts.{IsAllowed}
 use Rattle.cdb_model.specs.Text.{last_first}
 use Rattle.cdb_model.specs.Spelled.{row_of_pixels}
-use Rattle.cdb_engine.proofs.RowLaws.{on_err, all_of_row, one_more_row, row_read}
+use Rattle.cdb_engine.proofs.RowLaws.{all_of_row, one_more_row, row_read}
 use Rattle.cdb_engine.proofs.SpelledLaws.{not_allowed}
 use Rattle.cdb_engine.proofs.image_rows.push_rows.Goals as goal
+use Rattle.cdb_files.proofs.WholeLaws.{of_err}
 
 pub returns-in_err-push_row-clause-err : goal.returns-in_err-push_row-clause-err
 returns-in_err-push_row-clause-err c =
@@ -20,7 +21,7 @@ returns-in_err-push_row-clause-err c =
     c.in_err-push_row.ensures.allowed.1
     (all_of_row (IsAllowed c.args.maker.now.head.kind c.args.novalue) c.args.image.now.length c.loop-r.r
     (row_of_pixels c.args.bytes.now) c.loop-r-test.true all) in
-    on_err _ c.from_residual.result none
+    of_err c.from_residual.result _ none
 
 pub loop-r-preserved : goal.loop-r-preserved
 loop-r-preserved c =

@@ -5,9 +5,10 @@ use Rattle.cdb_source.specs.declared.head.SourceHead.{SourceHead}
 use Rattle.cdb_source.specs.Posts.{IsAllowed}
 use Rattle.cdb_model.specs.Text.{last_first}
 use Rattle.cdb_model.specs.Spelled.{spelled_row}
-use Rattle.cdb_engine.proofs.RowLaws.{on_err, all_of_row}
+use Rattle.cdb_engine.proofs.RowLaws.{all_of_row}
 use Rattle.cdb_engine.proofs.SpelledLaws.{not_allowed}
 use Rattle.cdb_engine.proofs.posts.push_posts.Goals as goal
+use Rattle.cdb_files.proofs.WholeLaws.{of_err}
 
 pub returns-in_err-push_row-clause-err : goal.returns-in_err-push_row-clause-err
 returns-in_err-push_row-clause-err c =
@@ -19,4 +20,4 @@ returns-in_err-push_row-clause-err c =
     c.in_err-push_row.ensures.allowed.1
     (all_of_row (IsAllowed c.args.maker.now.head.kind c.args.novalue) c.args.rows c.loop-row.row
     (spelled_row c.args.cols c.args.posts.now) c.loop-row-test.true all) in
-    on_err _ c.from_residual.result none
+    of_err c.from_residual.result _ none

@@ -1,6 +1,7 @@
 use Rattle.std.proofs.Common.{◌<◌, length, sym, ◌∙◌}
-use Rattle.cdb_manifest.proofs.FieldLaws.{ascending_more, ascending_last, not_empty}
+use Rattle.cdb_manifest.proofs.FieldLaws.{ascending_more, ascending_last}
 use Rattle.cdb_manifest.proofs.decoding.comes_after.Goals as goal
+use Rattle.cdb_source.proofs.DecodingLaws.{not_empty}
 
 pub returns-in-Less-clause-yes : goal.returns-in-Less-clause-yes
 returns-in-Less-clause-yes c = λ _.

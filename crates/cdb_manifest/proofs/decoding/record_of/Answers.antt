@@ -1,8 +1,8 @@
 use Rattle.std.proofs.Common.{◌<◌, length}
 use Rattle.cdb_manifest.specs.Decoding.{RecordCause}
-use Rattle.cdb_manifest.proofs.FieldLaws.{not_empty}
-use Rattle.cdb_manifest.proofs.DecodingLaws.{told_head, told_entry, to_entries, left_over, handed_on}
+use Rattle.cdb_manifest.proofs.DecodingLaws.{told_head, told_entry, to_entries, left_over}
 use Rattle.cdb_manifest.proofs.decoding.record_of.Goals as goal
+use Rattle.cdb_source.proofs.DecodingLaws.{not_empty, handed_on}
 
 pub returns-in_err-heads-clause-bad : goal.returns-in_err-heads-clause-bad
 returns-in_err-heads-clause-bad c =

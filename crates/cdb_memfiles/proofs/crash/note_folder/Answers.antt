@@ -1,14 +1,15 @@
 use Rattle.std.proofs.Common.{◌∙◌, sym, ap}
 use Rattle.cdb_files.specs.Disk.{after_make_dir}
+use Rattle.cdb_files.proofs.StateLaws.{make_dir-present}
 use Rattle.cdb_memfiles.specs.Crash.{only_made}
 use Rattle.cdb_memfiles.specs.History.{apply}
 use Rattle.cdb_memfiles.specs.declared.call.Call.TheVariants.{MakeDir}
 use Rattle.cdb_memfiles.proofs.CrashLaws.{made-make_dir, made-other}
-use Rattle.cdb_memfiles.proofs.MomentLaws.{state_push, still-make_dir}
+use Rattle.cdb_memfiles.proofs.MomentLaws.{state_push}
 use Rattle.cdb_memfiles.proofs.crash.note_folder.Goals as goal
 
 pub note-requires : goal.note-requires
-note-requires c = still-make_dir c.in-MakeDir.folder.bytes
+note-requires c = make_dir-present c.in-MakeDir.folder.bytes
 
 pub returns-in_ok-note : goal.returns-in_ok-note
 returns-in_ok-note c s e =

@@ -3,11 +3,11 @@ use Rattle.std.proofs.lemmas.Option.{get_or_from_slice_get}
 use Rattle.cdb_source.specs.Texts.{source_text}
 use Rattle.cdb_source.specs.declared.head.SourceHead.{SourceHead}
 use Rattle.cdb_model.specs.Names.{source_path}
+use Rattle.cdb_source.proofs.Lists.{some_at}
 use Rattle.cdb_files.specs.Disk.{State}
 use Rattle.cdb_cut.specs.OneTile.{IsPaintedBy}
 use Rattle.cdb_publish.specs.Needs.{Need, AreSized, TellsError}
 use Rattle.cdb_publish.specs.Windows.{window_need, window_needs}
-use Rattle.cdb_crash.proofs.NewestFiles.{some_at}
 use Rattle.cdb_files.proofs.MomentLaws.{rests_then}
 use Rattle.cdb_publish.proofs.Sizes.{stopped, sized-append}
 use Rattle.cdb_cut.proofs.PaintedSources.{one_older}

@@ -1,9 +1,8 @@
 use Rattle.std.proofs.Common.{sym, ap, ◌∙◌, subst}
 use Rattle.cdb_model.specs.Maps.{FileMap}
 use Rattle.cdb_files.specs.Disk.{State, after_remove}
-use Rattle.cdb_files.proofs.StateLaws.{remove-only}
+use Rattle.cdb_files.proofs.StateLaws.{remove-only, sync_dir-present}
 use Rattle.cdb_files.proofs.WholeLaws.{begun, onward_ok, onward_err}
-use Rattle.cdb_crash.proofs.Possible.{sync_dir-present}
 use Rattle.cdb_recover.specs.inside.Clearing.{RemovesOne}
 use Rattle.cdb_recover.proofs.Removals.{then_synced, removes, fails_removes, removal-made, sync_dir-made}
 use Rattle.cdb_recover.proofs.clearing.remove_kept.Goals as goal

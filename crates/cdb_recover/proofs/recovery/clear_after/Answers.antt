@@ -1,7 +1,8 @@
 use Rattle.std.proofs.Common.{◌∙◌}
+use Rattle.std.proofs.lemmas.Result.{on_ok_weaker}
 use Rattle.cdb_model.specs.Stands.{Stands}
 use Rattle.cdb_files.proofs.MomentLaws.{then_on}
-use Rattle.cdb_recover.proofs.Recoveries.{cleared-moved, new_head_goes, new_head_gone, new_head_alone, removed-after, no_leftover, if_ok}
+use Rattle.cdb_recover.proofs.Recoveries.{cleared-moved, new_head_goes, new_head_gone, new_head_alone, removed-after, no_leftover}
 use Rattle.cdb_recover.proofs.Recoveries.{whole_without}
 use Rattle.cdb_recover.proofs.recovery.clear_after.Goals as goal
 
@@ -42,7 +43,7 @@ returns-in-Ok-clause-left g c told =
     let clock = g.D.Disk.clock in let since = g.D.Disk.since in let state = g.D.Disk.state in
     let disk = c.args.disk.now in let one = c.remove_new_head.new.disk in let two = c.clear_next.new.disk in
     let here = g.met.D.Disk.present_possible disk told in
-    if_ok c.clear_next.result _ _ (no_leftover c.args.newest (state one).present (state two).present
+    on_ok_weaker c.clear_next.result (no_leftover c.args.newest (state one).present (state two).present
     (new_head_gone clock since state disk one here (c.in-Ok.ensures.ok told)) (c.clear_next.ensures.removed told))
     (c.clear_next.ensures.left told)
 

@@ -3,9 +3,8 @@ use Rattle.std.proofs.lemmas.Int.{to_z-of_z}
 use mir.Syntax.{w16}
 use mir.Val.{SFits}
 use Rattle.cdb_grid.specs.Frames.{number_in}
-use Rattle.cdb_grid.proofs.FrameLaws.{row-more}
+use Rattle.cdb_grid.proofs.FrameLaws.{row-more, passed}
 use Rattle.cdb_tiff_write.specs.inside.Finer.{four_in_rows}
-use Rattle.cdb_tiff_write.proofs.FourSamples.{passed}
 use Rattle.cdb_tiff_write.proofs.folding.fold_row.Goals as goal
 
 pub loop-k-preserved : goal.loop-k-preserved

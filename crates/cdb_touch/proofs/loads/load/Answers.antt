@@ -3,7 +3,8 @@ use Rattle.std.proofs.lemmas.List.{take_more}
 use Rattle.std.proofs.Math.Seq.{take-length}
 use Rattle.cdb_source.specs.declared.head.SourceHead.{SourceHead}
 use Rattle.cdb_source.specs.Reached.{IsLoad}
-use Rattle.cdb_touch.proofs.CountLaws.{IsLoad-push, IsLoad-only}
+use Rattle.cdb_source.proofs.LoadLaws.{one_load}
+use Rattle.cdb_touch.proofs.CountLaws.{IsLoad-push}
 use Rattle.cdb_touch.proofs.loads.load.Goals as goal
 
 pub loop-head-preserved : goal.loop-head-preserved
@@ -26,4 +27,4 @@ returns-clause-only c n a =
     let b = c.loop-head.auto.head-index-end in omega arith in
     let e : take c.loop-head.head-index xs ≡ xs = ap (λ k. take k xs) all ∙ take-length xs in
     let l : IsLoad xs c.loop-head.total = subst (λ ys. IsLoad ys c.loop-head.total) e c.loop-head.invariant.load in
-    IsLoad-only c.args.heads.now n c.loop-head.total a l
+    one_load c.args.heads.now n c.loop-head.total a l

@@ -1,10 +1,11 @@
 use Rattle.std.proofs.Common.{◌≡◌, ◌+◌, ◌∷◌, [], length, Err, sym, ap, ◌∙◌, subst, arith}
 use Rattle.std.proofs.Common.{length-append}
 use Rattle.cdb_files.specs.Disk.{State}
+use Rattle.cdb_files.proofs.MomentLaws.{rests_then}
 use Rattle.cdb_model.specs.Names.{record_path}
 use Rattle.cdb_chain.specs.inside.Opening.{IsRecordOf}
 use Rattle.cdb_chain.proofs.StoreLaws.{are_records, opens_to}
-use Rattle.cdb_chain.proofs.OpeningLaws.{rests_then, one_read, one_index, refused}
+use Rattle.cdb_chain.proofs.OpeningLaws.{one_read, one_index, refused}
 use Rattle.cdb_chain.proofs.chain.Chain.open.Goals as goal
 
 pub loop-done-preserved : goal.loop-done-preserved

@@ -1,30 +1,10 @@
-use Rattle.std.proofs.Common.{◌≡◌, ℕ, ◌+◌, ◌-◌, ◌*◌, ◌<◌, ℤ, pos, List, length, get_or, take, drop, arith, rules, refl, ◌∙◌}
+use Rattle.std.proofs.Common.{◌≡◌, ℕ, ◌+◌, ◌-◌, ◌*◌, ◌<◌, ℤ, pos, List, length, get_or, take, drop, arith, rules, refl}
 use Rattle.std.proofs.lemmas.Int.{to_z-of_z}
 use mir.Syntax.{w16}
-use mir.Val.{SFits, to_z, of_z}
+use mir.Val.{SFits}
 use Rattle.cdb_grid.specs.Frames.{four_under, number_in}
-use Rattle.cdb_grid.proofs.FrameLaws.{row-more, in_row}
+use Rattle.cdb_grid.proofs.FrameLaws.{row-more, in_row, passed}
 use Rattle.cdb_grid.proofs.part.FinerRowRule.change_row.Goals as goal
-
--- the numbers as the program passes them
-passed : (f : ℤ → ℤ → ℤ → ℤ → ℤ → ℤ) (r a b c d e p q s t u : ℤ) → SFits w16 a → SFits w16 b → SFits w16 c
-    → SFits w16 d → SFits w16 e
-    → r ≡ f (to_z w16 (of_z w16 a)) (to_z w16 (of_z w16 b)) (to_z w16 (of_z w16 c)) (to_z w16 (of_z w16 d))
-    (to_z w16 (of_z w16 e))
-    → a ≡ p → b ≡ q → c ≡ s → d ≡ t → e ≡ u → r ≡ f p q s t u
-passed f r a b c d e p q s t u fa fb fc fd fe is ea eb ec ed ee =
-    is ∙ rw (
-      to_z-of_z w16 a fa,
-      to_z-of_z w16 b fb,
-      to_z-of_z w16 c fc,
-      to_z-of_z w16 d fd,
-      to_z-of_z w16 e fe,
-      ea,
-      eb,
-      ec,
-      ed,
-      ee,
-    ) refl
 
 pub loop-k-preserved : goal.loop-k-preserved
 loop-k-preserved g c =

@@ -1,12 +1,13 @@
 use Rattle.std.proofs.Common.{refl, ap, rules}
 use Rattle.cdb_files.specs.Disk.{FailsMakeDir, after_make_dir}
+use Rattle.cdb_files.proofs.StateLaws.{make_dir-present}
 use Rattle.cdb_memfiles.specs.History.{replay}
 use Rattle.cdb_memfiles.specs.declared.call.Call.TheVariants.{MakeDir}
-use Rattle.cdb_memfiles.proofs.MomentLaws.{changes_push, changes_none, still-make_dir, fails_make_dir-same}
+use Rattle.cdb_memfiles.proofs.MomentLaws.{changes_push, changes_none, fails_make_dir-same}
 use Rattle.cdb_memfiles.proofs.mem_disk.MemDiskDisk.make_dir.Goals as goal
 
 pub note-requires : goal.note-requires
-note-requires c = still-make_dir c.args.folder.now.bytes
+note-requires c = make_dir-present c.args.folder.now.bytes
 
 pub returns-in-Ok-clause-changes : goal.returns-in-Ok-clause-changes
 returns-in-Ok-clause-changes c = changes_push (MakeDir c.args.folder.now) c.in-Ok.ensures.ok

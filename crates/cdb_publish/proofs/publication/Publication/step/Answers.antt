@@ -1,4 +1,5 @@
 use Rattle.std.proofs.Common.{◌≡◌, ◌+◌, ◌++◌, ◌∷◌, [], refl, sym, ap, ◌∙◌, subst, length, Ok, Err, Some, arith}
+use Rattle.std.proofs.lemmas.Option.{same_Some}
 use Rattle.cdb_source.specs.Reached.{IsTouched}
 use Rattle.cdb_model.specs.Publications.{heads_of}
 use Rattle.cdb_manifest.specs.declared.record_.Record.{Record}
@@ -9,7 +10,6 @@ use Rattle.cdb_publish.specs.declared.errors.Progress.{Progress}
 use Rattle.cdb_publish.specs.declared.errors.Progress.TheVariants.{Going}
 use Rattle.cdb_publish.specs.declared.plan.Plan.{Plan}
 use Rattle.cdb_publish.specs.declared.work.Work.{Work}
-use Rattle.cdb_crash.proofs.NewestFiles.{some_is}
 use Rattle.cdb_publish.proofs.StepRuns.{step_stands, step_leads}
 use Rattle.cdb_publish.proofs.Underways.{opened, keeps, now_ready}
 use Rattle.cdb_publish.proofs.publication.Publication.step.Goals as goal
@@ -102,7 +102,7 @@ returns-in-Ok-advance-clause-sizes g c w is more =
     λ v. SizesTold {T = Progress} g.D.Disk.tells (g.D.Disk.state c.args.disk.now).present v.plan
     c.args.chain.now.records v.done
     (g.D.Disk.read_count c.args.disk.now) (g.D.Disk.read_count c.advance.new.disk) (Ok Going) in
-    subst S (some_is c.in-Some.work w (sym at ∙ is)) c.in-Ok-advance.ensures.sizes
+    subst S (same_Some c.in-Some.work w (sym at ∙ is)) c.in-Ok-advance.ensures.sizes
 
 pub returns-in-Err-advance-clause-sizes : goal.returns-in-Err-advance-clause-sizes
 returns-in-Err-advance-clause-sizes g c w is more =
@@ -112,7 +112,7 @@ returns-in-Err-advance-clause-sizes g c w is more =
     λ v. SizesTold {T = Progress} g.D.Disk.tells (g.D.Disk.state c.args.disk.now).present v.plan
     c.args.chain.now.records v.done
     (g.D.Disk.read_count c.args.disk.now) (g.D.Disk.read_count c.advance.new.disk) (Err c.in-Err-advance.error) in
-    subst S (some_is c.in-Some.work w (sym at ∙ is)) c.in-Err-advance.ensures.sizes
+    subst S (same_Some c.in-Some.work w (sym at ∙ is)) c.in-Err-advance.ensures.sizes
 
 pub returns-in-Ok-clause-added : goal.returns-in-Ok-clause-added
 returns-in-Ok-clause-added g c one =

@@ -40,12 +40,12 @@ returns c =
     c.self.invariant h.small in
     let n = (o.1 c.index.result.now c.index.ensures).0 in
     let tile = c.in-Some-pair.pair.tile in
-    let bytes = c.split_at.ensures.front ∙ ap (λ (xs : List ℕ). take c.file_length.result xs) c.get-bytes.ensures.value
-    ∙ ap (λ k. take c.file_length.result (contents pool k)) n
-    ∙ ap (λ k. take k (contents pool slot.frame)) c.file_length.ensures.value in
+    let bytes = c.split_at.ensures.front ∙ ap (λ (xs : List ℕ). take c.tile_size.result xs) c.get-bytes.ensures.value
+    ∙ ap (λ k. take c.tile_size.result (contents pool k)) n
+    ∙ ap (λ k. take k (contents pool slot.frame)) c.tile_size.ensures.value in
     let head = h.head c.in-Some-pair.pair c.in-Some-pair.is in
     let view = ap (λ (s : Cache). slice_get s.kept 0) c.self.view_is in
     record {
       bytes = ap Some bytes ∙ sym (ap (option_map (λ (k : Kept). k.bytes)) (sym view ∙ head));
-      small = omega (arith, c.split_at.ensures.front_len, c.file_length.ensures.most);
+      small = omega (arith, c.split_at.ensures.front_len, c.tile_size.ensures.most);
     }
